@@ -1,0 +1,130 @@
+-- Document 01, "Reference cases": K1 to K11 as one table, proved by computing the definitions.
+-- K7 and K8 go through the job on the listing's bytes, since only that reads, draws, opens, closes and prints in one.
+use mathlib.Core.Path.{_≡_, refl}
+use Prim.Native.Nat.{ℕ, _*_}
+use mathlib.Core.Bool.{Bool, true, false}
+use mathlib.Core.List.{List, [], _∷_, _++_}
+use lib.ListN.{length, replicate}
+use Rattle.rules.specs.Tests.{_or_, _and_, outside, refuse}
+use Rattle.rules.specs.Lists.{sum, products, scaled, anyOf, anyPair, risesFrom, rising, elem}
+use Rattle.rules.specs.Selection.{sumOf, count, byKey, rank, firsts, listed, leastFrom}
+use Rattle.rules.specs.TakeAll.{Frame, Group, TakeAllAnswer, frame, moreTurnover, larger, largest, restWithout, reachesRest, fits, takeAllSize, restTurnover, takeAllGroup, baseWeight, badTurnovers, badSize, badCount, takeAllRefusal, takeAllAnswer, takeAllMarks}
+use Rattle.rules.specs.Draw.{DrawAnswer, shifted, keyNumerator, keyDenominator, fractionBelow, keyBelow, sampledBy, drawnBy, panelNumbers, panelWeights, badLists, badRandom, frameRefusal, drawRefusal, drawAnswer, drawNumbers, drawWeights}
+use Rattle.rules.specs.Rotation.{RotationAnswer, member, members, required, startAt, leaves, suffices, leastStep, leavers, badOldPanel, rotationRefusal, rotationAnswer, rotationLeavers}
+use Rattle.rules.specs.Chain.{Chain, Call, Opening, Answer, held, badIndex, badRelative, badWeight, badUnits, badOpenLists, badBase, badShares, openRefusal, openRecord, openAnswer, link, figureAt, broken, callRefusal, lateRefusal, refusalOf, answerOf, after, answers}
+use Rattle.rules.specs.Direct.{Direct, directOpen, directAfter, numerator, denominator}
+use Rattle.rules.specs.Total.{TotalAnswer, badSectors, totalOf, totalAnswer}
+use Rattle.rules.specs.Stream.{bigEndian, widthOf, commandOf, frontRefusal, reading, restOf}
+use Rattle.rules.specs.Lines.{digitsOn, decimalOn, lineOf, lineOf2, panelLines, quarterLine, closeLine}
+use Rattle.rules.specs.Job.{emptyJob, onUnit, drawnJob, onDraw, onShare, onRelative, withChain, onOpen, step, printed, output}
+
+-- "Frame A: units 11 to 15, turnovers 70, 10, 8, 7, 5 million", with the R that K1 and K2 give
+abbrev turnoversA : List ℕ
+turnoversA = 70000000 ∷ 10000000 ∷ 8000000 ∷ 7000000 ∷ 5000000 ∷ []
+
+abbrev frameA : ℕ → Frame
+frameA lastRandom = frame (11 ∷ 12 ∷ 13 ∷ 14 ∷ 15 ∷ []) turnoversA (300000 ∷ 500000 ∷ 200000 ∷ 900000 ∷ lastRandom ∷ [])
+
+-- a buffer of four places that holds something else
+abbrev buffer : List ℕ
+buffer = 1 ∷ 2 ∷ 3 ∷ 4 ∷ []
+
+-- the listing's job stream, command by command
+abbrev streamA : List ℕ
+streamA =
+    1 ∷ 0 ∷ 0 ∷ 0 ∷ 11 ∷ 0 ∷ 0 ∷ 0 ∷ 0 ∷ 4 ∷ 44 ∷ 29 ∷ 128 ∷ 0 ∷ 4 ∷ 147 ∷ 224
+    ∷ 1 ∷ 0 ∷ 0 ∷ 0 ∷ 12 ∷ 0 ∷ 0 ∷ 0 ∷ 0 ∷ 0 ∷ 152 ∷ 150 ∷ 128 ∷ 0 ∷ 7 ∷ 161 ∷ 32
+    ∷ 1 ∷ 0 ∷ 0 ∷ 0 ∷ 13 ∷ 0 ∷ 0 ∷ 0 ∷ 0 ∷ 0 ∷ 122 ∷ 18 ∷ 0 ∷ 0 ∷ 3 ∷ 13 ∷ 64
+    ∷ 1 ∷ 0 ∷ 0 ∷ 0 ∷ 14 ∷ 0 ∷ 0 ∷ 0 ∷ 0 ∷ 0 ∷ 106 ∷ 207 ∷ 192 ∷ 0 ∷ 13 ∷ 187 ∷ 160
+    ∷ 1 ∷ 0 ∷ 0 ∷ 0 ∷ 15 ∷ 0 ∷ 0 ∷ 0 ∷ 0 ∷ 0 ∷ 76 ∷ 75 ∷ 64 ∷ 0 ∷ 1 ∷ 134 ∷ 160
+    ∷ 2 ∷ 3 ∷ 0 ∷ 0 ∷ 0 ∷ 0
+    ∷ 4 ∷ 0 ∷ 0 ∷ 0 ∷ 39 ∷ 16 ∷ 4 ∷ 1 ∷ 0 ∷ 0 ∷ 39 ∷ 16 ∷ 4 ∷ 2 ∷ 0 ∷ 0 ∷ 39 ∷ 16
+    ∷ 5 ∷ 0 ∷ 0 ∷ 0 ∷ 0 ∷ 59 ∷ 154 ∷ 202 ∷ 0
+    ∷ 4 ∷ 0 ∷ 0 ∷ 0 ∷ 41 ∷ 4 ∷ 4 ∷ 1 ∷ 0 ∷ 0 ∷ 38 ∷ 72 ∷ 4 ∷ 2 ∷ 0 ∷ 0 ∷ 46 ∷ 224
+    ∷ 7
+    ∷ 4 ∷ 0 ∷ 0 ∷ 0 ∷ 39 ∷ 16 ∷ 4 ∷ 1 ∷ 0 ∷ 0 ∷ 39 ∷ 16 ∷ 4 ∷ 2 ∷ 0 ∷ 0 ∷ 39 ∷ 116
+    ∷ 6
+    ∷ []
+
+-- the five lines that the listing prints
+abbrev linesA : List ℕ
+linesA =
+    80 ∷ 32 ∷ 49 ∷ 49 ∷ 32 ∷ 49 ∷ 52 ∷ 48 ∷ 48 ∷ 48 ∷ 48 ∷ 48 ∷ 48 ∷ 48 ∷ 10
+    ∷ 80 ∷ 32 ∷ 49 ∷ 51 ∷ 32 ∷ 51 ∷ 48 ∷ 48 ∷ 48 ∷ 48 ∷ 48 ∷ 48 ∷ 48 ∷ 10
+    ∷ 80 ∷ 32 ∷ 49 ∷ 53 ∷ 32 ∷ 51 ∷ 48 ∷ 48 ∷ 48 ∷ 48 ∷ 48 ∷ 48 ∷ 48 ∷ 10
+    ∷ 67 ∷ 32 ∷ 49 ∷ 48 ∷ 54 ∷ 50 ∷ 48 ∷ 48 ∷ 48 ∷ 48 ∷ 48 ∷ 48 ∷ 10
+    ∷ 81 ∷ 32 ∷ 49 ∷ 48 ∷ 54 ∷ 51 ∷ 55 ∷ 57 ∷ 57 ∷ 57 ∷ 57 ∷ 52 ∷ 10
+    ∷ []
+
+-- "relatives 10,500, 9,800, 12,000, close, relatives 10,000, 10,000, 10,100, quarter"
+abbrev directA : Direct
+directA =
+    directAfter (directOpen (140000000 ∷ 30000000 ∷ 30000000 ∷ []) (10000 ∷ 10000 ∷ 10000 ∷ []) (10000 ∷ 10000 ∷ 10000 ∷ []) 1000000000)
+    (Call.close (10500 ∷ 9800 ∷ 12000 ∷ []))
+
+-- a record of one unit, of which a quarter asks one relative
+abbrev oneUnit : Chain
+oneUnit = record { weights = 1000000 ∷ []; units = 1; index = 1000000000; closes = 0 }
+
+pub record ReferenceTable : Type 0 where
+  -- K1: q = 1, n = 2, X = 30 million; drawn 11, 13, 15, with the listing's weights
+  k1-group : takeAllAnswer turnoversA 3 (9 ∷ 9 ∷ 9 ∷ 9 ∷ 9 ∷ 9 ∷ []) ≡ TakeAllAnswer.taken 1 2 30000000
+  k1-marks : takeAllMarks turnoversA 3 (9 ∷ 9 ∷ 9 ∷ 9 ∷ 9 ∷ 9 ∷ []) ≡ 1 ∷ 0 ∷ 0 ∷ 0 ∷ 0 ∷ 9 ∷ []
+  k1-answer : drawAnswer (frameA 100000) 3 0 buffer buffer ≡ DrawAnswer.drawn 2 30000000
+  k1-numbers : drawNumbers (frameA 100000) 3 0 buffer buffer ≡ 11 ∷ 13 ∷ 15 ∷ 4 ∷ []
+  k1-weights : drawWeights (frameA 100000) 3 0 buffer buffer ≡ 140000000 ∷ 30000000 ∷ 30000000 ∷ 4 ∷ []
+  -- K2: R of 15 set to 220,000
+  k2 : drawNumbers (frameA 220000) 3 0 buffer buffer ≡ 11 ∷ 12 ∷ 13 ∷ 4 ∷ []
+  -- K3: 20, 10, 10, z = 2: the first is take-all; K4: 19, 11, 10: none is; K5: one unit, z = 1: cut-off
+  k3 : takeAllAnswer (20 ∷ 10 ∷ 10 ∷ []) 2 buffer ≡ TakeAllAnswer.taken 1 1 20
+  k4 : takeAllAnswer (19 ∷ 11 ∷ 10 ∷ []) 2 buffer ≡ TakeAllAnswer.taken 0 2 40
+  k5 : takeAllAnswer (5 ∷ []) 1 buffer ≡ TakeAllAnswer.taken 1 0 0
+  k5-weight : drawWeights (frame (7 ∷ []) (5 ∷ []) (0 ∷ [])) 1 0 buffer buffer ≡ 5 ∷ 2 ∷ 3 ∷ 4 ∷ []
+  -- K6: old panel 13 and 15, old start 0, f = 500: k = 101, leaver 15, new panel 11, 12, 13
+  k6-answer : rotationAnswer (frameA 100000) 3 0 (13 ∷ 15 ∷ []) 500 buffer ≡ RotationAnswer.rotated 101 101000 1
+  k6-leavers : rotationLeavers (frameA 100000) 3 0 (13 ∷ 15 ∷ []) 500 buffer ≡ 15 ∷ []
+  k6-panel : drawNumbers (frameA 100000) 3 101000 buffer buffer ≡ 11 ∷ 12 ∷ 13 ∷ 4 ∷ []
+  -- K7, K8: the C and the Q figure of the listing, whose output is exact
+  k7-k8 : output streamA ≡ linesA
+  -- "Here D is 1,063,800,000"
+  k8-direct : numerator directA (10000 ∷ 10000 ∷ 10100 ∷ []) ≡ 1063800000 * denominator directA
+  -- K9: units 1 to 3, turnover 10 and R 500,000 each, z = 1, start 0: unit 1
+  k9 : drawNumbers (frame (1 ∷ 2 ∷ 3 ∷ []) (10 ∷ 10 ∷ 10 ∷ []) (500000 ∷ 500000 ∷ 500000 ∷ [])) 1 0 buffer buffer ≡ 1 ∷ 2 ∷ 3 ∷ 4 ∷ []
+  -- K10: relative 2,499 refused by 13, 2,500 taken
+  k10-refused : answerOf oneUnit (Call.quarter (2499 ∷ [])) ≡ Answer.refused 13
+  k10-taken : answerOf oneUnit (Call.quarter (2500 ∷ [])) ≡ Answer.figure 250000000
+  -- K11
+  k11 : totalAnswer (600000 ∷ 400000 ∷ []) (1062000000 ∷ 1000000000 ∷ []) ≡ TotalAnswer.total 1037200000
+
+pub reference-table : ReferenceTable
+unfolding _or_ _and_ outside refuse sum products scaled anyOf anyPair risesFrom rising elem
+    sumOf count byKey rank firsts listed leastFrom
+    moreTurnover larger largest restWithout reachesRest fits takeAllSize restTurnover takeAllGroup baseWeight badTurnovers badSize badCount takeAllRefusal takeAllAnswer takeAllMarks
+    shifted keyNumerator keyDenominator fractionBelow keyBelow sampledBy drawnBy panelNumbers panelWeights badLists badRandom frameRefusal drawRefusal drawAnswer drawNumbers drawWeights
+    member members required startAt leaves suffices leastStep leavers badOldPanel rotationRefusal rotationAnswer rotationLeavers
+    held badIndex badRelative badWeight badUnits badOpenLists badBase badShares openRefusal openRecord openAnswer link figureAt broken callRefusal lateRefusal refusalOf answerOf after
+    directOpen numerator denominator badSectors totalOf totalAnswer
+    bigEndian widthOf commandOf frontRefusal reading restOf digitsOn decimalOn lineOf lineOf2 panelLines
+    emptyJob onUnit drawnJob onDraw onShare onRelative withChain onOpen step printed output
+reference-table =
+    record {
+      k1-group = refl;
+      k1-marks = refl;
+      k1-answer = refl;
+      k1-numbers = refl;
+      k1-weights = refl;
+      k2 = refl;
+      k3 = refl;
+      k4 = refl;
+      k5 = refl;
+      k5-weight = refl;
+      k6-answer = refl;
+      k6-leavers = refl;
+      k6-panel = refl;
+      k7-k8 = refl;
+      k8-direct = refl;
+      k9 = refl;
+      k10-refused = refl;
+      k10-taken = refl;
+      k11 = refl;
+    }

@@ -1,0 +1,13 @@
+pub mod Limits
+pub mod Tests
+pub mod Lists
+pub mod Selection
+pub mod TakeAll
+pub mod Draw
+pub mod Rotation
+pub mod Chain
+pub mod Direct
+pub mod Total
+pub mod Stream
+pub mod Lines
+pub mod Job

@@ -1,0 +1,91 @@
+-- Document 01: every limit and scale, named once. Nothing else spells these numbers.
+use Prim.Native.Nat.{ℕ}
+
+-- ---- frame and draw ("Frame and weights", "Draw", refusals 1 to 6)
+-- units in a frame
+abbrev pub mostFrame : ℕ
+mostFrame = 16384
+
+-- euros in a frame, 10^12
+abbrev pub mostTurnover : ℕ
+mostTurnover = 1000000000000
+
+-- a random number is below this, and so is a start
+abbrev pub randomRange : ℕ
+randomRange = 1000000
+
+-- units in a panel, and places of a chain record
+abbrev pub mostPanel : ℕ
+mostPanel = 100
+
+-- ---- rotation ("Rotation", refusals 7 and 8)
+-- f is in thousandths
+abbrev pub fractionScale : ℕ
+fractionScale = 1000
+
+-- steps that are tried, 0 to 999
+abbrev pub steps : ℕ
+steps = 1000
+
+-- how far a step moves the start
+abbrev pub stepLength : ℕ
+stepLength = 1000
+
+-- ---- chain ("Chain record", refusals 9 to 13, 19, 21 to 24)
+-- a share of 1, in ten-thousandths of turnover
+abbrev pub shareScale : ℕ
+shareScale = 10000
+
+-- a relative of 1, and the range that belongs to the relative
+abbrev pub relativeScale : ℕ
+relativeScale = 10000
+
+abbrev pub lowestRelative : ℕ
+lowestRelative = 2500
+
+abbrev pub highestRelative : ℕ
+highestRelative = 40000
+
+-- L is a mean relative times this
+abbrev pub linkScale : ℕ
+linkScale = 10000
+
+-- the least u or v of a present unit
+abbrev pub leastWeight : ℕ
+leastWeight = 1000000
+
+-- the sum of W, and of v, 10^14
+abbrev pub mostWeight : ℕ
+mostWeight = 100000000000000
+
+-- an index, 10^8 to 10^10 (an index of 100 is 10^9)
+abbrev pub lowestIndex : ℕ
+lowestIndex = 100000000
+
+abbrev pub highestIndex : ℕ
+highestIndex = 10000000000
+
+abbrev pub mostCloses : ℕ
+mostCloses = 40
+
+-- ---- the bound of demand 3: 10,000,000 × |F − D| ≤ 11 × (m + 1) × D
+abbrev pub boundScale : ℕ
+boundScale = 10000000
+
+abbrev pub boundFactor : ℕ
+boundFactor = 11
+
+-- ---- total ("Total", refusal 14)
+abbrev pub mostSectors : ℕ
+mostSectors = 64
+
+-- sector shares are in millionths
+abbrev pub sectorScale : ℕ
+sectorScale = 1000000
+
+-- ---- job stream ("Job stream", refusals 15 and 20)
+abbrev pub mostStream : ℕ
+mostStream = 32768
+
+abbrev pub mostHeld : ℕ
+mostHeld = 1024
