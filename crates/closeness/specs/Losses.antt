@@ -1,0 +1,43 @@
+-- What the floors of document 01, "Chain record", lose at most. These numbers are no part of the statement of demand 3: its proof counts
+-- with them. One that is too small is refused by the limit beside it, one that is too large by the bound (must-fail/).
+use Prim.Native.Nat.{ℕ, _+_, _*_}
+use Rattle.rules.specs.Limits.{lowestRelative, linkScale}
+
+-- Losses are counted in parts of this: to lose one part of x is to lose x / 100,000,000.
+abbrev pub parts : ℕ
+parts = 100000000
+
+-- A floor that leaves at least b loses less than 1 in b. A u or v of a present unit is at least 1,000,000 (21).
+abbrev pub weightLoss : ℕ
+weightLoss = 100
+
+-- L is at least 25,000,000, since a relative is at least 2,500 (13).
+abbrev pub leastLink : ℕ
+leastLink = lowestRelative * linkScale
+
+abbrev pub linkLoss : ℕ
+linkLoss = 4
+
+-- F is at least 100,000,000 (23).
+abbrev pub indexLoss : ℕ
+indexLoss = 1
+
+-- the two floors of one figure, L's and F's
+abbrev pub figureLoss : ℕ
+figureLoss = linkLoss + indexLoss
+
+-- floors of a weight at the open: u and v
+abbrev pub openFloors : ℕ
+openFloors = 2
+
+-- floors of a weight at each close
+abbrev pub closeFloors : ℕ
+closeFloors = 1
+
+-- floors that a weight has had after an open with `opening` floors and so many closes
+abbrev pub floors : ℕ → ℕ → ℕ
+floors opening closes = opening + closeFloors * closes
+
+-- The bound is derived for weights that were floored at most so many times; an open and forty closes stay far below.
+abbrev pub mostFloors : ℕ
+mostFloors = 1000

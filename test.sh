@@ -1,0 +1,42 @@
+#!/usr/bin/env bash
+# The test command: the layout of every file, every proof and must-fail edit from nothing, then the tests against the
+# independent computation. The last line is `N passed, M failed`, the sum over the parts.
+set -uo pipefail
+cd "$(dirname "$0")" || exit 2
+passed=0
+failed=0
+log=$(mktemp)
+trap 'rm -f "$log"' EXIT
+
+# part NAME COMMAND..: runs a command whose last line is `N passed, M failed` and adds it up. A command that ends in
+# another way, or that says one thing by its last line and another by its exit status, counts as one failure.
+part() {
+    local name=$1
+    shift
+    echo "== $name"
+    "$@" 2>&1 | tee "$log"
+    local status=${PIPESTATUS[0]}
+    local last
+    last=$(tail -n 1 "$log")
+    if [[ $last =~ ^([0-9]+)\ passed,\ ([0-9]+)\ failed$ ]]; then
+        passed=$((passed + BASH_REMATCH[1]))
+        failed=$((failed + BASH_REMATCH[2]))
+        if [ "$status" -ne 0 ] && [ "${BASH_REMATCH[2]}" -eq 0 ]; then
+            echo "$name: exit status $status"
+            failed=$((failed + 1))
+        fi
+    else
+        echo "$name: no count on its last line, exit status $status"
+        failed=$((failed + 1))
+    fi
+}
+
+layout() {
+    if rt fmt --check; then echo "1 passed, 0 failed"; else echo "0 passed, 1 failed"; fi
+}
+
+part "layout (rt fmt --check)" layout
+part "proofs (rt ci)" rt ci
+part "tests against the independent computation" python3 tests/run.py
+echo "$passed passed, $failed failed"
+[ "$failed" -eq 0 ] && [ "$passed" -gt 0 ]

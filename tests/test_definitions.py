@@ -1,0 +1,306 @@
+"""The definitions of crates/rules against the independent computation.
+
+Every case is computed twice: here by exact integers and fractions, and by the
+prover from the definitions. Cases are small, since the prover computes as the
+definitions say (a rank is a count); the built code is tested at full size elsewhere.
+"""
+
+import random
+
+import definitions
+from definitions import number_list
+from independent import Refused, chain, frame, stream
+
+
+def answer(kind, value, *fields):
+    """An answer as the definitions write it."""
+    if isinstance(value, Refused):
+        return f"{kind}.refused {value.number}"
+    return " ".join([fields[0]] + [str(getattr(value, name)) for name in fields[1:]])
+
+
+def draw_cases(numbers, turnovers, randoms, z, start, room_numbers, room_weights):
+    told, after_numbers, after_weights = frame.draw(numbers, turnovers, randoms, z, start, room_numbers, room_weights)
+    lists = " ".join(map(number_list, (numbers, turnovers, randoms)))
+    rest = f"(frame {lists}) {z} {start} {number_list(room_numbers)} {number_list(room_weights)}"
+    yield f"drawAnswer {rest}", answer("DrawAnswer", told, "DrawAnswer.drawn", "n", "X")
+    yield f"drawNumbers {rest}", number_list(after_numbers)
+    yield f"drawWeights {rest}", number_list(after_weights)
+
+
+def take_all_cases(turnovers, z, marks):
+    told, after = frame.take_all_entry(turnovers, z, marks)
+    rest = f"{number_list(turnovers)} {z} {number_list(marks)}"
+    yield f"takeAllAnswer {rest}", answer("TakeAllAnswer", told, "TakeAllAnswer.taken", "q", "n", "X")
+    yield f"takeAllMarks {rest}", number_list(after)
+
+
+def rotation_cases(numbers, turnovers, randoms, z, old, panel, f, room):
+    told, leavers, _ = frame.rotate(numbers, turnovers, randoms, z, old, panel, f, room)
+    lists = " ".join(map(number_list, (numbers, turnovers, randoms)))
+    rest = f"(frame {lists}) {z} {old} {number_list(panel)} {f} {number_list(room)}"
+    yield f"rotationAnswer {rest}", answer("RotationAnswer", told, "RotationAnswer.rotated", "k", "new_start", "count")
+    yield f"rotationLeavers {rest}", number_list(leavers)
+
+
+def frame_refusal_cases(numbers, turnovers, randoms, z, start):
+    told = frame.frame_refusal(numbers, turnovers, randoms, z, start)
+    lists = " ".join(map(number_list, (numbers, turnovers, randoms)))
+    yield f"frameRefusal (frame {lists}) {z} {start} 0", str(told or 0)
+
+
+def record_text(record):
+    fields = f"weights = {number_list(record.weights)}; units = {record.units}; index = {record.index}; closes = {record.closes}"
+    return f"(record {{ {fields} }})"
+
+
+def open_cases(W, g, a, start):
+    told = chain.open_chain(W, g, a, start)
+    value = f"Opening.refused {told.number}" if isinstance(told, Refused) else f"Opening.opened {record_text(told)}"
+    yield f"openAnswer {number_list(W)} {number_list(g)} {number_list(a)} {start}", value
+
+
+def call_cases(record, p):
+    for name, call in (("quarter", chain.quarter), ("close", chain.close)):
+        after, told = call(record, p)
+        rest = f"{record_text(record)} (Call.{name} {number_list(p)})"
+        yield f"answerOf {rest}", answer("Answer", told, "Answer.figure", "F")
+        yield f"after {rest}", record_text(after)
+
+
+def direct_cases(W, g, a, start, closes, p):
+    """D after some closes, by cross multiplication with the fraction."""
+    exact = chain.Direct(W, g, a, start)
+    state = f"directOpen {number_list(W)} {number_list(g)} {number_list(a)} {start}"
+    for q in closes:
+        exact.closed(q)
+        state = f"directAfter ({state}) (Call.close {number_list(q)})"
+    state = f"(directAfter ({state}) (Call.quarter {number_list(p)}))"
+    D = exact.D(p)
+    yield f"numerator {state} {number_list(p)} * {D.denominator}", f"{D.numerator} * denominator {state}"
+    yield f"{state} .m", str(exact.m)
+
+
+def total_cases(shares, indices):
+    told = chain.total(shares, indices)
+    yield f"totalAnswer {number_list(shares)} {number_list(indices)}", answer("TotalAnswer", told, "TotalAnswer.total", "total")
+
+
+def command_text(command):
+    names = {"unit": "unit", "draw": "draw", "share": "share", "relative": "relative", "open": "opens", "quarter": "quarter", "close": "close"}
+    return "(" + " ".join([f"Command.{names[command[0]]}"] + [str(n) for n in command[1:]]) + ")"
+
+
+def reading_cases(part):
+    told, rest = stream.read_command(bytes(part))
+    if isinstance(told, Refused):
+        value = f"Reading.refused {told.number}"
+    else:
+        value = "Reading.ended" if told == stream.END else f"Reading.command {command_text(told)}"
+    yield f"reading {number_list(part)}", value
+    yield f"restOf {number_list(part)}", number_list(rest)
+
+
+def output_cases(octets):
+    yield f"output {number_list(octets)}", number_list(stream.run(bytes(octets)))
+
+
+# Generators of small cases. A fault is put in with some chance, several at once too, so that the order of refusals shows.
+
+
+def faulty(rng, value, *faults):
+    return rng.choice(faults) if rng.random() < 0.12 else value
+
+
+def small_frame(rng, most=5):
+    units = rng.randint(1, most)
+    numbers = sorted(rng.sample([0, 1, 2, 3, 5, 9, 11, 12, 2**32 - 2, 2**32 - 1], units))
+    scale = rng.choice([1, 7, 10**6, 10**11])
+    turnovers = [scale * rng.choice([1, 1, 2, 3, 5, 8, 20, 70]) for _ in numbers]
+    randoms = [rng.choice([0, 1, 250_000, 500_000, 500_000, 999_998, 999_999, rng.randrange(10**6)]) for _ in numbers]
+    if rng.random() < 0.1:
+        turnovers[0] += 10**12 - sum(turnovers) if sum(turnovers) < 10**12 else 0
+    faults = {
+        "numbers": [numbers[:-1], numbers + [2**32 - 1], list(reversed(numbers)), numbers[:1] * units],
+        "turnovers": [turnovers[:-1], [0] + turnovers[1:], turnovers[:-1] + [10**12], [10**12 + 1 - (units - 1)] + [1] * (units - 1)],
+        "randoms": [randoms[:-1], randoms + [0], [10**6] + randoms[1:]],
+    }
+    return (
+        faulty(rng, numbers, *faults["numbers"]),
+        faulty(rng, turnovers, *faults["turnovers"]),
+        faulty(rng, randoms, *faults["randoms"]),
+    )
+
+
+def some_start(rng):
+    return rng.choice([0, 0, 1, 250_000, 500_000, 500_001, 999_999, rng.randrange(10**6)])
+
+
+def frame_suite(rng, count):
+    for _ in range(count):
+        numbers, turnovers, randoms = small_frame(rng)
+        z = faulty(rng, rng.randint(1, max(1, len(turnovers))), 0, len(turnovers) + 1, 101)
+        start = faulty(rng, some_start(rng), 10**6)
+        rooms = [list(range(90, 90 + max(0, z + d))) for d in (faulty(rng, rng.randint(0, 2), -1), faulty(rng, rng.randint(0, 2), -1))]
+        yield from draw_cases(numbers, turnovers, randoms, z, start, *rooms)
+        yield from take_all_cases(turnovers, z, [9] * max(0, len(turnovers) + faulty(rng, rng.randint(0, 2), -1)))
+
+
+def rotation_suite(rng, count):
+    for _ in range(count):
+        numbers, turnovers, randoms = small_frame(rng, 4)
+        z = faulty(rng, rng.randint(1, max(1, len(turnovers))), 0, len(turnovers) + 1)
+        old = faulty(rng, some_start(rng), 10**6)
+        panel = sorted(rng.sample(sorted(set(numbers) | {4, 10}), rng.randint(0, min(4, len(set(numbers)) + 1))))
+        panel = faulty(rng, panel, list(reversed(panel)), panel + panel[-1:], list(range(101)))
+        f = faulty(rng, rng.choice([0, 1, 250, 500, 501, 999, 1000]), 1001)
+        room = list(range(70, 70 + max(0, len(panel) + faulty(rng, rng.randint(0, 2), -1))))
+        yield from rotation_cases(numbers, turnovers, randoms, z, old, panel, f, room)
+
+
+def open_suite(rng, count):
+    for _ in range(count):
+        units = rng.randint(1, 4)
+        W = [rng.choice([10**6, 10**8, 400_000_000, 10**9 + 7, 4 * 10**13]) for _ in range(units)]
+        g = [rng.choice([10_000, 10_000, 5_000, 9_999, 1, 0]) for _ in range(units)]
+        a = [rng.choice([10_000, 2_500, 40_000, 12_345]) if share else 0 for share in g]
+        start = faulty(rng, rng.choice([10**8, 10**9, 10**10]), 10**8 - 1, 10**10 + 1)
+        W = faulty(rng, W, W[:-1], [0] + W[1:], W[:-1] + [10**14 - sum(W[:-1])], W[:-1] + [10**14 + 1 - sum(W[:-1])])
+        g = faulty(rng, g, g[:-1], [10_001] + g[1:], [0] * units)
+        a = faulty(rng, a, a[:-1], [2_499] + a[1:], [40_001] + a[1:], [0] + a[1:], [1] + a[1:])
+        yield from open_cases(W, g, a, start)
+
+
+def call_suite(rng, count):
+    for _ in range(count):
+        units = rng.randint(1, 4)
+        v = [rng.choice([0, 10**6, 10**6 + 1, 4 * 10**6, 4 * 10**6 - 1, 10**9, 2 * 10**13]) for _ in range(units)]
+        p = [rng.choice([10_000, 2_500, 40_000, 9_999, 12_345]) if weight else 0 for weight in v]
+        beyond = [rng.randrange(50) for _ in range(rng.randint(0, 2))]
+        v = faulty(rng, v, [999_999] + v[1:], [0] * units, [10**14 - sum(v[1:])] + v[1:], [10**14 + 1 - sum(v[1:])] + v[1:], [1] + v[1:])
+        index = faulty(rng, rng.choice([10**8, 10**9, 10**10, 4 * 10**8, 399_999_999]), 10**8 - 1, 10**10 + 1)
+        closes = faulty(rng, rng.choice([0, 1, 39]), 40, 41)
+        count_units = faulty(rng, units, 0, 101)
+        p = faulty(rng, p, p[:-1], p + [10_000], [2_499] + p[1:], [40_001] + p[1:], [0] + p[1:], [1] + p[1:])
+        yield from call_cases(chain.Record(count_units, v + beyond, index, closes), p)
+
+
+def direct_suite(rng, count):
+    for _ in range(count):
+        units = rng.randint(1, 3)
+        W = [rng.randrange(10**6, 10**12) for _ in range(units)]
+        g = [10_000] + [rng.choice([0, 1, 10_000]) for _ in range(units - 1)]
+        a, p, *closes = [[rng.randrange(2_500, 40_001) if share else 0 for share in g] for _ in range(2 + rng.randint(0, 3))]
+        yield from direct_cases(W, g, a, rng.randrange(10**8, 10**10 + 1), closes, p)
+
+
+def total_suite(rng, count):
+    for _ in range(count):
+        sectors = rng.randint(1, 4)
+        cuts = sorted(rng.randrange(10**6 + 1) for _ in range(sectors - 1))
+        shares = [b - a for a, b in zip([0] + cuts, cuts + [10**6])]
+        indices = [rng.choice([10**8, 10**9, 10**10, 1_062_000_007]) for _ in shares]
+        shares = faulty(rng, shares, shares[:-1], shares[:-1] + [shares[-1] + 1], [])
+        indices = faulty(rng, indices, indices[:-1], [10**8 - 1] + indices[1:], [10**10 + 1] + indices[1:], [])
+        yield from total_cases(shares, indices)
+
+
+def encoded(command):
+    codes = {name: (code, widths) for code, (name, widths) in stream.COMMANDS.items()}
+    code, widths = codes[command[0]]
+    return [code] + [octet for n, width in zip(command[1:], widths) for octet in n.to_bytes(width, "big")]
+
+
+def some_commands(rng):
+    """A short job: units, a draw, shares and relatives, an open, some calls."""
+    numbers = sorted(rng.sample(range(1, 40), rng.randint(1, 3)))
+    commands = [("unit", n, rng.choice([5, 10, 10, 40]) * 10**6, rng.randrange(10**6)) for n in numbers]
+    size = rng.randint(1, len(numbers))
+    commands.append(("draw", size, some_start(rng)))
+    if rng.random() < 0.3:
+        commands.append(("share", rng.randrange(size), rng.choice([5_000, 10_000])))
+    for call in ["open"] + [rng.choice(["quarter", "close"]) for _ in range(rng.randint(0, 2))]:
+        commands += [("relative", place, rng.choice([9_000, 10_000, 12_000])) for place in range(size)]
+        commands.append((call, 10**9) if call == "open" else (call,))
+    return commands
+
+
+def stream_suite(rng, count):
+    yield from output_cases([])
+    for _ in range(count):
+        commands = some_commands(rng)
+        if rng.random() < 0.5:
+            extra = rng.choice([("open", 10**8 - 1), ("quarter",), ("close",), ("share", 0, 10_000), ("relative", 3, 1), ("draw", 0, 0), ("unit", 50, 1, 1)])
+            commands.insert(rng.randrange(len(commands) + 1), extra)
+        octets = [octet for command in commands for octet in encoded(command)]
+        if rng.random() < 0.25:
+            octets = octets[: rng.randrange(len(octets))]
+        if rng.random() < 0.25 and octets:
+            octets[rng.randrange(len(octets))] = rng.choice([0, 1, 7, 8, 255])
+        yield from output_cases(octets)
+        yield from reading_cases(octets)
+
+
+def reading_suite():
+    """Each command byte and one beside it, whole, one byte short and one byte more."""
+    for code in range(0, 9):
+        full = [code] + list(range(11, 27))
+        for length in {1, 3, 4, 5, 6, 7, 8, 9, 10, 16, 17}:
+            yield from reading_cases(full[:length])
+    yield from reading_cases([])
+    yield from reading_cases([6] * 32_768)
+    yield from reading_cases([6] * 32_769)
+    yield from output_cases([8] * 32_768)
+    yield from output_cases([8] * 32_769)
+
+
+def limit_suite():
+    """Limits that need long lists, from both sides."""
+    for units in (100, 101, 16_384, 16_385):
+        for z in (99, 100, 101):
+            yield from frame_refusal_cases(list(range(units)), [1] * units, [0] * units, z, 0)
+    for units in (100, 101):
+        yield from open_cases([10**8] * units, [10_000] * units, [10_000] * units, 10**9)
+        yield from call_cases(chain.Record(units, [10**8] * 101, 10**9, 0), [10_000] * units)
+    for sectors in (64, 65):
+        yield from total_cases([10**6] + [0] * (sectors - 1), [10**9] * sectors)
+    panel = list(range(100))
+    for old_panel in (panel, panel + [100]):
+        yield from rotation_cases([1, 2], [5, 5], [0, 1], 1, 0, old_panel, 0, [0] * 101)
+
+
+def full_frame_cases():
+    """20: the 1,025th unit, judged from a job that holds 1,023, 1,024 or 1,025."""
+    for held in (1_023, 1_024, 1_025):
+        job = stream.Job(numbers=[0] * held, turnovers=[0] * held, randoms=[0] * held)
+        _, told = stream.step(job, ("unit", 1, 1, 1))
+        lists = f"(frame (replicate {held} 0) (replicate {held} 0) (replicate {held} 0))"
+        state = f"(record {{ units = {lists}; panel = []; shares = []; pending = []; chain = OpenChain.none }})"
+        value = f"Saying.refused {told.number}" if isinstance(told, Refused) else "Saying.nothing"
+        yield f"(step {state} (Command.unit 1 1 1)) .says", value
+
+
+def all_cases(rng, times):
+    cases = list(limit_suite()) + list(full_frame_cases()) + list(reading_suite())
+    suites = (
+        (frame_suite, 60),
+        (rotation_suite, 40),
+        (open_suite, 90),
+        (call_suite, 90),
+        (direct_suite, 15),
+        (total_suite, 40),
+        (stream_suite, 60),
+    )
+    for suite, count in suites:
+        cases += list(suite(rng, count * times))
+    return cases
+
+
+def test_definitions(t):
+    cases = all_cases(random.Random(t.seed), 4 if t.long else 1)
+    refused, said = definitions.refused_cases(cases)
+    if refused is None:
+        t.check(False, "the prover computed the cases", repeat=said[-3000:])
+        return
+    for i, (expression, value) in enumerate(cases):
+        t.check(i not in refused, "a definition computes what the independent computation gives", repeat=f"{expression} ≡ {value}")

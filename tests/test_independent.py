@@ -1,0 +1,587 @@
+"""Is the independent computation sane, and are the generators sharp?
+
+The laws here are reckoned in another way than the computation does: by whole
+numbers where it uses fractions, by trying where it searches.
+"""
+
+import math
+from fractions import Fraction
+from itertools import islice
+
+import generate
+from independent import Refused, chain
+from independent.chain import Direct, Figure, Record, Total, close, open_chain, quarter, total, within_bound
+from independent.frame import Drawn, Rotated, Taken, draw, rotate, same_leavers, take_all, take_all_entry
+from independent.stream import COMMANDS, END, Job, read_command, run, step
+
+STREAM_REFUSALS = {1, 2, 3, 4, 5, 11, 12, 13, 15, 16, 17, 18, 19, 20, 21, 22, 23, 24}
+
+
+# Each entry on a case: its answer, and whether what was handed in stayed as it was
+
+
+def try_draw(data):
+    answer, numbers, weights = draw(**data)
+    return answer, (numbers, weights) == (data["out_numbers"], data["out_weights"])
+
+
+def try_take_all(data):
+    answer, marks = take_all_entry(**data)
+    return answer, marks == data["out_marks"]
+
+
+def try_rotate(data):
+    answer, leavers, buffer = rotate(**data)
+    return answer, leavers == [] and buffer == data["out_leavers"]
+
+
+def try_open(data):
+    return open_chain(**data), True
+
+
+def record_of(data):
+    """The record of a quarter or close case."""
+    return Record(data["units"], data["weights"], data["index"], data["closes"])
+
+
+def try_quarter(data):
+    record, answer = quarter(record_of(data), data["p"])
+    return answer, record == record_of(data)
+
+
+def try_close(data):
+    record, answer = close(record_of(data), data["p"])
+    return answer, record == record_of(data)
+
+
+def try_total(data):
+    return total(**data), True
+
+
+def try_read(data):
+    command, rest = read_command(data["part"])
+    return command, rest == data["part"]
+
+
+def try_run(data):
+    """The refusal in the last line, or all that was printed."""
+    printed = run(data["stream"])
+    lines = printed.decode("ascii").splitlines()
+    if lines and lines[-1].startswith("R "):
+        return Refused(int(lines[-1].split()[1])), True
+    return printed, True
+
+
+# generator -> (entry, the refusals it can meet, random cases in a short and a long run)
+ENTRIES = {
+    "draw_cases": (try_draw, {1, 2, 3, 4, 5, 6}, 60, 3_000),
+    "take_all_cases": (try_take_all, {1, 3, 5, 6}, 100, 5_000),
+    "rotate_cases": (try_rotate, {1, 2, 3, 4, 5, 6, 7, 8}, 30, 1_000),
+    "open_cases": (try_open, {9, 10, 11, 12, 13, 21, 22}, 300, 20_000),
+    "quarter_cases": (try_quarter, {9, 13, 19, 23, 24}, 300, 20_000),
+    "close_cases": (try_close, {9, 13, 19, 21, 22, 23, 24}, 300, 20_000),
+    "total_cases": (try_total, {14}, 300, 20_000),
+    "reader_cases": (try_read, {15, 16, 17}, 300, 20_000),
+    "stream_cases": (try_run, STREAM_REFUSALS, 20, 500),
+}
+
+
+def refusal_in(answer):
+    """The number of a refusal, 0 for anything else."""
+    return answer.number if isinstance(answer, Refused) else 0
+
+
+def test_refusals(t):
+    """Each case meets what it intends; each number of each entry is met; a refusal changes nothing."""
+    for name, (entry, numbers, short, long) in ENTRIES.items():
+        met = set()
+        for case in generate.GENERATORS[name](t.seed, t.count(short, long)):
+            answer, untouched = entry(case.data)
+            found = refusal_in(answer)
+            met.add(found)
+            if case.intends is not None:
+                t.check(found == case.intends, f"answers {found}, {case.intends} is due", case)
+            if found:
+                t.check(untouched, "a refusal changes nothing", case)
+        t.check(met - {0} == numbers, f"{name} meets {sorted(met - {0})} of {sorted(numbers)}")
+        t.check(0 in met, f"{name} has accepted cases")
+
+
+def test_limits_have_both_sides(t):
+    """Beside each case beyond a limit stands one within it that differs in its answer."""
+    for name, (_, numbers, _, _) in ENTRIES.items():
+        fixed = list(generate.GENERATORS[name](t.seed, 0))
+        sides = {case.what: case.intends for case in fixed}
+        beyond = {what: n for what, n in sides.items() if what.endswith(": beyond")}
+        for what, number in beyond.items():
+            within = sides.get(what.replace(": beyond", ": within"))
+            t.check(within is not None, f"{name}, {what}: there is a case within")
+        if name != "stream_cases":
+            limited = {number for number in beyond.values() if number}
+            lacking = numbers - limited - {16, 17}
+            t.check(not lacking, f"{name}: limits for {sorted(lacking)} are missing")
+
+
+# Generators
+
+
+def test_generators_repeat(t):
+    for name, generator in generate.GENERATORS.items():
+        if name == "many_draw_cases":
+            continue
+        first = list(islice(generator(t.seed, 3), 400))
+        t.check(first == list(islice(generator(t.seed, 3), 400)), f"{name}: one seed, one list")
+        t.check(first == list(islice(generator(t.seed, 4), len(first))), f"{name}: a longer run begins alike")
+        last = first[-1]
+        t.check(generate.again(name, t.seed, last.number) == last, f"{name}: a case made again")
+        other = list(generator(t.seed + 1, 3))
+        t.check([case.data for case in first] != [case.data for case in other], f"{name}: seeds differ")
+
+
+WIDE = {"turnovers", "out_weights", "W", "weights", "index", "indices", "start_index"}
+
+
+def widest(data, name):
+    """The largest number of an argument that must fit a machine word."""
+    value = data[name]
+    if name == "calls":
+        return max((p for _, relatives in value for p in relatives), default=0)
+    if isinstance(value, list):
+        return max(value, default=0)
+    return value
+
+
+def test_numbers_fit_the_machine(t):
+    for name, generator in generate.GENERATORS.items():
+        if name in ("stream_cases", "reader_cases", "many_draw_cases", "large_draw_cases"):
+            continue
+        for case in generator(t.seed, 20):
+            for argument in case.data:
+                wide = argument in WIDE or (argument == "start" and "W" in case.data)
+                top = generate.U64 if wide else generate.U32
+                value = widest(case.data, argument)
+                t.check(0 <= value <= top, f"{argument} holds {value}", case)
+
+
+# Take-all and draw
+
+
+def group_places(data):
+    """Places marked by the take-all entry."""
+    _, marks = take_all_entry(data["turnovers"], data["z"], [0] * len(data["turnovers"]))
+    return {i for i, mark in enumerate(marks) if mark == 1}
+
+
+def law_of_take_all(t, case):
+    """The next largest unit fails the test at q, and no smaller q has that."""
+    turnovers, z = case.data["turnovers"], case.data["z"]
+    falling = sorted(turnovers, reverse=True)
+    found = take_all(turnovers, z)
+    if found.q == z:
+        t.check((found.n, found.X, len(turnovers)) == (0, 0, z), "cut-off if z is all units", case)
+    else:
+        t.check(len(turnovers) > z, "no cut-off if units are left", case)
+        t.check((found.n, found.X) == (z - found.q, sum(falling[found.q :])), "n and X", case)
+        holding = [i for i, turnover in enumerate(turnovers) if found.n * turnover >= found.X]
+        t.check(set(holding) == found.group, "exactly the group satisfies the test", case)
+    for q in range(found.q):
+        rest = sum(falling[q:])
+        t.check((z - q) * falling[q] >= rest, f"q = {q} is too small", case)
+    t.check(sorted(turnovers[i] for i in found.group) == sorted(falling[: found.q]), "the q largest", case)
+
+
+def test_take_all_laws(t):
+    for case in generate.take_all_cases(t.seed, t.count(400, 20_000)):
+        if case.intends == 0:
+            law_of_take_all(t, case)
+
+
+def test_take_all_entry(t):
+    for case in generate.take_all_cases(t.seed + 1, t.count(200, 5_000)):
+        if case.intends != 0:
+            continue
+        answer, marks = take_all_entry(**case.data)
+        units = len(case.data["turnovers"])
+        found = take_all(case.data["turnovers"], case.data["z"])
+        t.check(answer == Taken(found.q, found.n, found.X), "q, n and X", case)
+        t.check([i for i in range(units) if marks[i] == 1] == sorted(found.group), "marks", case)
+        t.check(set(marks[:units]) <= {0, 1}, "a mark is 0 or 1", case)
+        t.check(marks[units:] == case.data["out_marks"][units:], "places beyond the units stay", case)
+
+
+def comes_before(data, n, X, one, two):
+    """Has unit `one` the smaller key, or the same key and the lower number? In whole numbers."""
+    sides = []
+    for i in (one, two):
+        r = (data["randoms"][i] - data["start"]) % 1_000_000
+        turnover = data["turnovers"][i]
+        sides.append((r * (X - n * turnover), (1_000_000 - r) * turnover))
+    (a, b), (c, d) = sides
+    return a * d < c * b or (a * d == c * b and data["numbers"][one] < data["numbers"][two])
+
+
+def law_of_draw(t, case):
+    """A rising panel of the group and the n units that come before all others, with their W."""
+    data, z = case.data, case.data["z"]
+    answer, numbers, weights = draw(**data)
+    panel = numbers[:z]
+    t.check(panel == sorted(set(panel)) and set(panel) <= set(data["numbers"]), "rising, of the frame", case)
+    t.check(numbers[z:] == data["out_numbers"][z:], "numbers beyond z stay", case)
+    t.check(weights[z:] == data["out_weights"][z:], "weights beyond z stay", case)
+    places = [data["numbers"].index(number) for number in panel]
+    group = group_places(data)
+    taken = [i for i in places if i not in group]
+    t.check(group <= set(places) and len(taken) == answer.n, "the group and n others", case)
+    # The total weight is n times all turnover: X for each of n, n x turnover for the group.
+    whole = sum(data["turnovers"]) * (answer.n or 1)
+    t.check(sum(weights[:z]) == whole, "the weights add to n x the total turnover", case)
+    for i, weight in zip(places, weights):
+        its = data["turnovers"][i] * (answer.n or 1)
+        t.check(weight == (its if i in group else answer.X), "W of a unit", case)
+    left = [i for i in range(len(data["numbers"])) if i not in places]
+    if taken and left:
+        first = left[0]
+        for i in left:
+            first = i if comes_before(data, answer.n, answer.X, i, first) else first
+        before = all(comes_before(data, answer.n, answer.X, i, first) for i in taken)
+        t.check(before, "the sampled come before all that are left", case)
+
+
+def test_draw_laws(t):
+    for case in generate.draw_cases(t.seed, t.count(300, 10_000)):
+        if case.intends == 0:
+            law_of_draw(t, case)
+
+
+def test_large_draws(t):
+    for case in generate.large_draw_cases(t.seed, t.count(2, 20)):
+        law_of_draw(t, case)
+
+
+def test_ties_decide(t):
+    """Among the tie cases both outcomes occur, and a draw in doubles gets some wrong."""
+    wrong = 0
+    picked = set()
+    for case in generate.draw_cases(t.seed, 0):
+        if case.what != "equal or nearly equal keys":
+            continue
+        picked.add(draw(**case.data)[1][0])
+        total_turnover = sum(case.data["turnovers"])
+        odds = []
+        for turnover, random in zip(case.data["turnovers"], case.data["randoms"]):
+            r, share = random / 1_000_000, turnover / total_turnover
+            odds.append(r / (1 - r) / (share / (1 - share)))
+        in_doubles = case.data["numbers"][odds.index(min(odds))]
+        wrong += in_doubles != draw(**case.data)[1][0]
+    t.check(picked == {5, 6}, "the first and the second are each drawn", picked)
+    t.check(wrong > 0, "doubles would draw another unit", wrong)
+
+
+# Rotation
+
+
+def drawn_under(data, start):
+    """The panel of a draw from this frame under a start."""
+    z = data["z"]
+    frame = (data["numbers"], data["turnovers"], data["randoms"])
+    return set(draw(*frame, z, start, [0] * z, [0] * z)[1])
+
+
+def members_of(data):
+    """Old panel units in the frame and not take-all now."""
+    group = {data["numbers"][i] for i in group_places(data)}
+    return [number for number in data["old_panel"] if number in data["numbers"] and number not in group]
+
+
+def leavers_under(data, k):
+    """Members that a draw under step k lacks."""
+    panel = drawn_under(data, (data["old_start"] + 1_000 * k) % 1_000_000)
+    return [number for number in members_of(data) if number not in panel]
+
+
+def steps_to_try(t, k):
+    """All steps before k in a long run, else the one before it and a few others."""
+    return range(k) if t.long else sorted({*range(0, k, max(1, k // 6)), k - 1} - {-1})
+
+
+def law_of_rotation(t, case):
+    """A draw under the new start lacks exactly the leavers, and no step before it suffices."""
+    data = case.data
+    answer, leavers, buffer = rotate(**data)
+    members = len(members_of(data))
+    enough = min(count for count in range(members + 1) if 1_000 * count >= data["f"] * members)
+    k = 1_000
+    if isinstance(answer, Rotated):
+        k = answer.k
+        t.check(answer.new_start == (data["old_start"] + 1_000 * k) % 1_000_000, "the new start", case)
+        t.check(leavers == leavers_under(data, k), "the draw lacks exactly the leavers", case)
+        t.check(answer.count == len(leavers) >= enough, "as many as required", case)
+        t.check(same_leavers(buffer, data["out_leavers"], leavers), "the buffer", case)
+    for earlier in steps_to_try(t, k):
+        short = len(leavers_under(data, earlier)) < enough
+        t.check(short, f"step {earlier} does not suffice, {k} is answered", case)
+    return k
+
+
+def test_rotation_laws(t):
+    steps = set()
+    for case in generate.rotate_cases(t.seed, t.count(120, 2_000)):
+        if case.intends in (0, 8, None) and len(case.data["numbers"]) < 1_000:
+            steps.add(law_of_rotation(t, case))
+    t.check({0, 999, 1_000} <= steps and len(steps) > 20, "steps of all kinds occur", sorted(steps))
+
+
+def test_same_leavers(t):
+    before = [7, 8, 9, 6]
+    t.check(same_leavers([3, 2, 9, 6], before, [2, 3]), "any order")
+    t.check(not same_leavers([3, 3, 9, 6], before, [2, 3]), "each exactly once")
+    t.check(not same_leavers([2, 3, 4, 6], before, [2, 3]), "the rest stays")
+    t.check(not same_leavers([2, 3, 9], before, [2, 3]), "the length stays")
+
+
+# Open, quarter, close
+
+
+def test_open_laws(t):
+    for case in generate.open_cases(t.seed, t.count(300, 10_000)):
+        if case.intends != 0:
+            continue
+        W, g, a = case.data["W"], case.data["g"], case.data["a"]
+        record = open_chain(**case.data)
+        t.check((record.units, record.index, record.closes) == (len(W), case.data["start"], 0), "head", case)
+        t.check(len(record.weights) == 100 and not any(record.weights[len(W) :]), "0 beyond the units", case)
+        for i in range(len(W)):
+            u = math.floor(Fraction(W[i] * g[i], 10_000))
+            v = math.floor(Fraction(u * a[i], 10_000)) if g[i] else 0
+            t.check(record.weights[i] == v, f"weight {i}", case)
+
+
+def law_of_calls(t, case):
+    """Quarter and close give one F; a close moves C, v and the count, and nothing else."""
+    record, p = record_of(case.data), case.data["p"]
+    held, said = quarter(record, p)
+    after, answer = close(record, p)
+    V = sum(record.weights[: len(p)])
+    L = math.floor(Fraction(sum(v * r for v, r in zip(record.weights, p)) * 10_000, V))
+    F = math.floor(Fraction(record.index * L, 100_000_000))
+    t.check(said == Figure(F) and held == record, "a quarter answers F and leaves the record", case)
+    t.check(answer == Figure(F), "a close answers the same F", case)
+    t.check((after.units, after.index, after.closes) == (len(p), F, record.closes + 1), "head", case)
+    t.check(after.weights[len(p) :] == record.weights[len(p) :], "places beyond the units stay", case)
+    for i, relative in enumerate(p):
+        v = math.floor(record.weights[i] * Fraction(relative, 10_000))
+        t.check(after.weights[i] == v, f"weight {i} after a close", case)
+
+
+def test_call_laws(t):
+    for case in generate.close_cases(t.seed, t.count(300, 10_000)):
+        if case.intends == 0:
+            law_of_calls(t, case)
+
+
+# Demand 3
+
+
+def follow(t, case):
+    """Make the calls of a chain; hand back each answer, with D and m where there is a D."""
+    data = case.data
+    opening = (data["W"], data["g"], data["a"], data["start"])
+    record = open_chain(*opening)
+    t.check(isinstance(record, Record), "the opening is accepted", case)
+    direct = Direct(*opening)
+    for kind, p in data["calls"]:
+        before = record
+        record, answer = (close if kind == "close" else quarter)(record, p)
+        if isinstance(answer, Refused):
+            t.check(record == before, "a refused call hands the record back", case)
+            yield answer, None, None
+            continue
+        yield answer, direct.D(p), direct.m
+        if kind == "close":
+            direct.closed(p)
+            t.check(record.closes == direct.m - 1, "m counts the accepted closes", case)
+
+
+def test_demand_3(t):
+    refusals, steps, figures = set(), set(), 0
+    for case in generate.chain_cases(t.seed, t.count(2_000, 40_000)):
+        for answer, D, m in follow(t, case):
+            if D is None:
+                refusals.add(answer.number)
+                continue
+            t.check(within_bound(answer.F, D, m), f"F = {answer.F}, D = {D}, m = {m}", case)
+            steps.add(m)
+            figures += 1
+    t.check(refusals == {9, 13, 21, 22, 23, 24}, "the chains meet each refusal of a call", refusals)
+    t.check(steps == set(range(1, 41)), "figures at each count of closes", steps)
+    t.check(figures > 20_000, "many figures", figures)
+
+
+# Both floors of the first weight lose nearly a millionth, and it moves apart from
+# the second: the distance is over 11 m D / 10,000,000 with m = 1.
+SHARP = ([1_010_001, 4_040_000], [9_999, 10_000], [10_001, 10_000], 10**8)
+SHARP_CALL = [40_000, 2_500]
+
+
+def test_bound(t):
+    """The bound from both sides, in m and in distance."""
+    _, answer = quarter(open_chain(*SHARP), SHARP_CALL)
+    direct = Direct(*SHARP)
+    D = direct.D(SHARP_CALL)
+    t.check(within_bound(answer.F, D, 1), "m + 1 covers both floors at the open", (answer, D))
+    t.check(not within_bound(answer.F, D, 0), "m alone does not", (answer, D))
+    D = Fraction(10_000_000)
+    for F in (D + 22, D - 22):
+        t.check(within_bound(F, D, 1), "at the bound", F)
+    for F in (D + 22 + Fraction(1, 10**9), D - 23):
+        t.check(not within_bound(F, D, 1), "beyond the bound", F)
+    t.check(not within_bound(1_063_593_000, 1_063_800_000, 2), "old weights kept fall out of the bound")
+
+
+def test_direct(t):
+    """The product of all moves, and no rounding anywhere."""
+    direct = Direct([10**9, 10**9, 5], [10_000, 3_333, 0], [10_001, 2_500, 0], 10**9)
+    t.check(direct.e == [1_000_100_000, Fraction(10**9 * 3_333 * 2_500, 10**8), 0], "opening e", direct.e)
+    for _ in range(3):
+        direct.closed([10_001, 9_999, 0])
+    moved = [direct_e * Fraction(10_000, 10_000) for direct_e in direct.e]
+    first = Fraction(1_000_100_000) * Fraction(10_001, 10_000) ** 3
+    t.check(direct.e[0] == first and direct.e[2] == 0, "e after three closes", direct.e)
+    opening = 1_000_100_000 + Fraction(10**9 * 3_333 * 2_500, 10**8)
+    t.check(direct.D([10_000, 10_000, 0]) == 10**9 * sum(moved) / opening, "E stays the opening sum")
+    t.check(direct.m == 4, "m", direct.m)
+
+
+def test_forty_closes(t):
+    record = open_chain([10**9], [10_000], [10_000], 10**9)
+    for number in range(40):
+        record, answer = close(record, [10_000])
+        t.check(answer == Figure(10**9), f"close {number + 1} is accepted", answer)
+    for call in (quarter, close):
+        t.check(call(record, [10_000])[1] == Refused(24), "24 after forty", record)
+        t.check(call(record, [2_499])[1] == Refused(13), "13 before 24", record)
+        t.check(call(record, [])[1] == Refused(9), "9 before 24", record)
+    t.check(close(record, [40_000])[1] == Refused(24), "four times is in range", record)
+
+
+def test_total_laws(t):
+    for case in generate.total_cases(t.seed, t.count(300, 10_000)):
+        if case.intends != 0:
+            continue
+        answer = total(**case.data)
+        shares, indices = case.data["shares"], case.data["indices"]
+        mean = sum(Fraction(share, 10**6) * index for share, index in zip(shares, indices))
+        t.check(answer == Total(math.floor(mean)), "the whole part of the mean", case)
+
+
+# Stream
+
+
+def encoded(command):
+    """The bytes of a command, from its name and operands."""
+    octet, widths = next((octet, widths) for octet, (name, widths) in COMMANDS.items() if name == command[0])
+    words = [number.to_bytes(width, "big") for number, width in zip(command[1:], widths)]
+    return bytes([octet]) + b"".join(words)
+
+
+def test_reader_laws(t):
+    for case in generate.reader_cases(t.seed, t.count(500, 20_000)):
+        part = case.data["part"]
+        command, rest = read_command(part)
+        t.check((command == END) == (part == b""), "the end is where nothing is left", case)
+        if isinstance(command, Refused) or command == END:
+            continue
+        t.check(encoded(command) + rest == part, "command and rest make the part", case)
+        if len(part) < 32_768:
+            longer = read_command(part + b"\x09")
+            t.check(longer == (command, rest + b"\x09"), "more bytes come after the rest", case)
+
+
+def commands_of(stream):
+    """(offset, command) as far as the reader takes the stream."""
+    rest = stream
+    command, after = read_command(rest)
+    while command != END and not isinstance(command, Refused):
+        yield len(stream) - len(rest), command
+        rest = after
+        command, after = read_command(rest)
+
+
+def law_of_stream(t, case):
+    """The offset is where the refused command begins; what comes before it is printed as ever."""
+    stream = case.data["stream"]
+    lines = run(stream).splitlines(keepends=True)
+    t.check(all(line.endswith(b"\n") for line in lines), "each line is ended", case)
+    t.check(not any(line.startswith(b"R") for line in lines[:-1]), "nothing after a refusal", case)
+    if not lines or not lines[-1].startswith(b"R"):
+        t.check(run(stream + b"\x00") == b"".join(lines) + b"R 16 %d\n" % len(stream), "all was read", case)
+        return
+    _, number, offset = (int(word) if word.isdigit() else word for word in lines[-1].split())
+    starts = [at for at, _ in commands_of(stream)] if len(stream) <= 32_768 else [0]
+    unread = number in (16, 17)
+    t.check(offset == (starts[-1:] or [0])[0] or unread or offset in starts, "a command begins there", case)
+    t.check(unread == (offset not in starts), "16 and 17 alone are at an unreadable command", case)
+    if number != 15:
+        t.check(run(stream[:offset]) == b"".join(lines[:-1]), "without the refused command no refusal", case)
+
+
+def test_stream_laws(t):
+    for case in generate.stream_cases(t.seed, t.count(10, 500)):
+        if len(case.data["stream"]) < 32_768:
+            law_of_stream(t, case)
+
+
+def test_many_draws(t):
+    for case in generate.many_draw_cases(t.seed, t.count(1, 2)):
+        lines = run(case.data["stream"]).splitlines()
+        draws = int(case.what.split()[0])
+        t.check(len(lines) == 100 * draws, "100 lines a draw", case)
+        t.check(lines[-100:] == lines[:100], "each draw alike", case)
+
+
+def test_step_changes_nothing_when_refused(t):
+    for case in generate.stream_cases(t.seed, 0):
+        job = Job()
+        if case.intends in (None, 15):
+            continue
+        for _, command in commands_of(case.data["stream"]):
+            before = repr(job)
+            job, answer = step(job, command)
+            if isinstance(answer, Refused):
+                t.check(repr(job) == before, "a refused command leaves the job", case)
+                break
+
+
+def job_after(stream):
+    """The job at the end of a stream that is accepted."""
+    job = Job()
+    for _, command in commands_of(stream):
+        job, _ = step(job, command)
+    return job
+
+
+def test_what_a_command_leaves(t):
+    """The lists of a job after each kind of command."""
+    listing = generate.LISTING
+    job = job_after(listing[:91])
+    t.check((job.panel, job.shares, job.relatives) == ([11, 13, 15], [10_000] * 3, [0] * 3), "draw", job)
+    t.check(job.numbers == [11, 12, 13, 14, 15] and job.chain is None, "the frame stays", job)
+    job = job_after(listing[:109])
+    t.check(job.relatives == [10_000] * 3, "pending relatives", job)
+    job = job_after(listing[:118])
+    t.check(job.relatives == [0] * 3 and job.chain.index == 10**9, "an open sets relatives to 0", job)
+    waiting = job_after(listing[:118] + b"\x03\x01\x00\x07")
+    t.check((waiting.shares, waiting.chain) == ([10_000, 7, 10_000], job.chain), "a share waits", waiting)
+    job = job_after(listing[:137])
+    t.check(job.relatives == [0] * 3 and job.chain.closes == 1, "a close sets relatives to 0", job)
+    job = job_after(listing)
+    t.check(job.relatives == [0] * 3 and job.chain.index == 1_062_000_000, "so does a quarter", job)
+    job = job_after(listing + listing[85:91])
+    t.check(job.chain is None and job.panel == [11, 13, 15], "a draw drops the chain", job)
+
+
+def test_refused_and_figure_differ(t):
+    """An answer is never mistaken for another kind with the same number."""
+    t.check(Refused(13) != Figure(13) and Figure(13) != Total(13), "kinds differ")
+    t.check(Drawn(1, 2) != (1, 2) and Refused(5) == Refused(5), "values agree")
+    t.check(chain.Record(1, [0], 1, 0) != chain.Record(1, [1], 1, 0), "records differ by a weight")
