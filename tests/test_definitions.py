@@ -280,20 +280,21 @@ def full_frame_cases():
         yield f"(step {state} (Command.unit 1 1 1)) .says", value
 
 
-def all_cases(rng, times):
-    cases = list(limit_suite()) + list(full_frame_cases()) + list(reading_suite())
-    suites = (
-        (frame_suite, 60),
-        (rotation_suite, 40),
-        (open_suite, 90),
-        (call_suite, 90),
-        (direct_suite, 15),
-        (total_suite, 40),
-        (stream_suite, 60),
-    )
-    for suite, count in suites:
-        cases += list(suite(rng, count * times))
-    return cases
+SUITES = {
+    "limits": lambda rng, times: list(limit_suite()) + list(full_frame_cases()),
+    "reading": lambda rng, times: reading_suite(),
+    "frame": lambda rng, times: frame_suite(rng, 60 * times),
+    "rotation": lambda rng, times: rotation_suite(rng, 40 * times),
+    "open": lambda rng, times: open_suite(rng, 90 * times),
+    "call": lambda rng, times: call_suite(rng, 90 * times),
+    "direct": lambda rng, times: direct_suite(rng, 15 * times),
+    "total": lambda rng, times: total_suite(rng, 40 * times),
+    "stream": lambda rng, times: stream_suite(rng, 60 * times),
+}
+
+
+def all_cases(rng, times, names=tuple(SUITES)):
+    return [case for name in names for case in SUITES[name](rng, times)]
 
 
 def test_definitions(t):

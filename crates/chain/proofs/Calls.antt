@@ -1,0 +1,134 @@
+-- Laws of a call's refusals and of what it answers (`rules`, Chain): what an admitted call knows, how 19, 9 and 13 stop it or let it go on, and the answer and the record that go with a refusal or a figure.
+use mathlib.Core.Path.{_≡_, refl, sym, ap, _∙_}
+use mathlib.Core.Bool.{Bool, true, false, not}
+use mathlib.Core.List.{List, _++_}
+use Prim.Native.Nat.{ℕ, zero, suc, _+_, _<_, _≤_, _^_}
+use native.Mathlib.Omega.{arith}
+use lib.Dec.{leb, ltb, eqb}
+use lib.ListN.{length, take, drop, length-append, length-drop}
+use lib.Seq.{length-take-le, take-at}
+use borrow.Author.Tests.{ltb-false, eqb-true, eqb-false, not-false}
+use Rattle.refusals.specs.Number.{numberOf}
+use Rattle.refusals.specs.declared.Refusal.{Refusal}
+use Rattle.rules.specs.Limits.{relativeScale, mostPanel, mostWeight, mostCloses, lowestIndex, highestIndex}
+use Rattle.rules.specs.Tests.{_or_, refuse}
+use Rattle.rules.specs.Lists.{sum, products, scaled, anyPair}
+use Rattle.rules.specs.Chain.{Chain, held, badUnits, badIndex, badWeight, badRelative, broken, callRefusal, moved, Answer, answerBy, afterBy}
+use Rattle.weights.proofs.Tests.{or-false, within, passed, stops}
+use Rattle.weights.proofs.Lists.{products-bound, length-scaled}
+use Rattle.weights.proofs.Refusals.{number-is-suc, not-none}
+use Rattle.chain.specs.Record.{answerFrom, Reckonable}
+use Rattle.chain.specs.declared.Answer.the-variants.{Figure, Refused}
+
+-- what a record within its limits has
+pub record Sound (r : Chain) : Type 0 where
+  pub most : r .units ≤ mostPanel
+  pub closes : r .closes ≤ mostCloses
+  pub index : r .index ≤ highestIndex
+  pub present : sum (held r) ≡ 0 → ⊥
+  pub limit : sum (held r) ≤ mostWeight
+
+pub units-most : (n : ℕ) → badUnits n ≡ false → n ≤ mostPanel
+unfolding badUnits
+units-most n e = ltb-false mostPanel n (or-false (eqb n 0) (ltb mostPanel n) e .1)
+
+pub sound-facts : (r : Chain) → broken r ≡ false → Sound r
+unfolding broken badIndex
+sound-facts r e =
+    let limit = or-false _ (ltb mostWeight (sum (held r))) e in
+    let present = or-false _ (eqb (sum (held r)) 0) (limit .0) in
+    let low = or-false _ (anyPair badWeight (held r) (held r)) (present .0) in
+    let index = or-false _ (badIndex (r .index)) (low .0) in
+    let closes = or-false (badUnits (r .units)) (ltb mostCloses (r .closes)) (index .0) in
+    record {
+      most = units-most (r .units) (closes .0);
+      closes = ltb-false mostCloses (r .closes) (closes .1);
+      index = within lowestIndex highestIndex (r .index) (index .1) .1;
+      present = eqb-false (sum (held r)) 0 (present .1);
+      limit = ltb-false mostWeight (sum (held r)) (limit .1);
+    }
+
+pub record Admitted (r : Chain) (ps : List ℕ) : Type 0 where
+  pub sound : Sound r
+  pub long : length ps ≡ r .units
+  pub relatives : anyPair badRelative (held r) ps ≡ false
+
+module _ (r : Chain) (ps : List ℕ) where
+  -- a call that 19, 9 and 13 let pass
+  pub admitted : callRefusal r ps 0 ≡ 0 → Admitted r ps
+  unfolding callRefusal
+  admitted e =
+      let state = passed (broken r) 18 _ e in
+      let lists = passed (not (eqb (length ps) (r .units))) 8 _ (state .1) in
+      let relatives = passed (anyPair badRelative (held r) ps) 12 0 (lists .1) in
+      record {
+        sound = sound-facts r (state .0);
+        long = eqb-true (length ps) (r .units) (not-false _ (lists .0));
+        relatives = relatives .0;
+      }
+
+  pub call-stops : (later : ℕ) (why : Refusal) → numberOf why ≡ callRefusal r ps 0 → callRefusal r ps later ≡ numberOf why
+  unfolding callRefusal
+  call-stops later why e =
+      stops (broken r) 19 _ _ (not-none why _ e)
+      (λ h. stops (not (eqb (length ps) (r .units))) 9 _ _ h
+      (λ k. stops (anyPair badRelative (held r) ps) 13 _ _ k (λ l. absurd (l refl))))
+      ∙ sym e
+
+  pub call-goes : (later : ℕ) → callRefusal r ps 0 ≡ 0 → callRefusal r ps later ≡ later
+  unfolding callRefusal refuse
+  call-goes later e =
+      let state = passed (broken r) 18 _ e in
+      let lists = passed (not (eqb (length ps) (r .units))) 8 _ (state .1) in
+      let relatives = passed (anyPair badRelative (held r) ps) 12 0 (lists .1) in
+      simp (state .0, lists .0, relatives .0)
+
+-- the places of an admitted record hold all its units, and its figure can be reckoned
+module _ (r : Chain) (ps : List ℕ) (places : length (r .weights) ≡ mostPanel) (a : Admitted r ps) where
+  pub units-fit : r .units ≤ length (r .weights)
+  units-fit = omega (arith, a .sound .most)
+
+  pub length-held : length (held r) ≡ r .units
+  unfolding held
+  length-held = length-take-le (r .units) (r .weights) units-fit
+
+  pub reckonable : Reckonable (held r) (r .index) ps
+  reckonable =
+      record {
+        long = length-held ∙ sym (a .long);
+        relatives = a .relatives;
+        present = omega (arith, a .sound .present);
+        limit = a .sound .limit;
+        inRange = a .sound .index;
+      }
+
+  -- the products v × p are below 2^64
+  pub products-fit : sum (products (held r) ps) < 2 ^ 64
+  products-fit =
+      let h : length ps ≤ length (held r) = omega (arith, a .long, length-held) in
+      omega (arith, a .sound .limit, products-bound (held r) (held r) ps (a .relatives) h)
+
+  -- the new weights are as many as the units
+  pub length-moved : length (moved r ps) ≡ r .units
+  length-moved = length-scaled relativeScale (held r) ps (length-held ∙ sym (a .long)) ∙ length-held
+
+  pub take-moved : (rest : List ℕ) → take (r .units) (moved r ps ++ rest) ≡ moved r ps
+  take-moved rest = take-at (moved r ps) rest (r .units) length-moved
+
+  -- and with the places beyond the units they fill the record
+  pub length-next : length (moved r ps ++ drop (r .units) (r .weights)) ≡ mostPanel
+  length-next =
+      simp length-append (omega (arith, places, length-moved, length-drop (r .units) (r .weights), units-fit))
+
+-- ---- the answer and the record that go with a refusal, and with a figure
+pub refused-answer : (n f : ℕ) (why : Refusal) → n ≡ numberOf why → answerFrom (Refused why) ≡ answerBy n f
+refused-answer n f why e = rw (e, number-is-suc why)
+
+pub refused-record : (n : ℕ) (r next : Chain) (why : Refusal) → n ≡ numberOf why → r ≡ afterBy n r next
+refused-record n r next why e = rw (e, number-is-suc why)
+
+pub figure-answer : (n f g : ℕ) → n ≡ 0 → f ≡ g → answerFrom (Figure f) ≡ answerBy n g
+figure-answer n f g e h = rw (e, h)
+
+pub figure-record : (n : ℕ) (r next next′ : Chain) → n ≡ 0 → next ≡ next′ → next ≡ afterBy n r next′
+figure-record n r next next′ e h = rw (e, h)

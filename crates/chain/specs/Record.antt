@@ -1,0 +1,35 @@
+-- Document 01, "Chain record": the record and the answer of the code as those of `rules`.
+use Prim.Native.Nat.{ℕ, _<_, _≤_}
+use mathlib.Core.Path.{_≡_}
+use mathlib.Core.Bool.{false}
+use mathlib.Core.List.{List}
+use lib.ListN.{length}
+use Rattle.refusals.specs.Number.{numberOf}
+use Rattle.rules.specs.Limits.{mostWeight, highestIndex}
+use Rattle.rules.specs.Lists.{sum, anyPair}
+use Rattle.rules.specs.Chain as rules
+use Rattle.chain.specs.declared.Chain.{Chain}
+use Rattle.chain.specs.declared.Answer.{Answer}
+use Rattle.chain.specs.declared.Answer.the-variants.{Figure, Refused}
+
+-- a record of these places and numbers
+abbrev pub recordWith : List ℕ → ℕ → ℕ → ℕ → rules.Chain
+recordWith places units index closes =
+    record { weights = places; units = units; index = index; closes = closes }
+
+-- the code's record, with every place of its array
+abbrev pub recordOf : Chain → rules.Chain
+recordOf c = recordWith (c .weights) (c .units) (c .index) (c .closes)
+
+-- the code's answer, a refusal by its number
+abbrev pub answerFrom : Answer → rules.Answer
+answerFrom (Figure f) = rules.Answer.figure f
+answerFrom (Refused why) = rules.Answer.refused (numberOf why)
+
+-- what a figure needs of the units' v, the index and the relatives so that no number on the way is too large
+pub record Reckonable (held : List ℕ) (index : ℕ) (ps : List ℕ) : Type 0 where
+  pub long : length held ≡ length ps
+  pub relatives : anyPair rules.badRelative held ps ≡ false
+  pub present : 0 < sum held
+  pub limit : sum held ≤ mostWeight
+  pub inRange : index ≤ highestIndex

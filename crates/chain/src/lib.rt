@@ -1,0 +1,113 @@
+// Document 01, "Chain record": quarter and close, by value on the record. Opening a record is the crate `opening`.
+pub mod tests;
+
+use refusals::Refusal;
+use refusals::Verdict;
+use relative::Relative;
+use weights::passes;
+ghost use mathlib.Core.Path.{_≡_};
+ghost use mathlib.Core.List.{List};
+ghost use Rattle.rules.specs.Chain.{Call, answerOf, after};
+ghost use Rattle.chain.specs.Record.{recordOf, answerFrom};
+
+// `weights` has every place of the record; the units' v are the first `units` of them.
+pub struct Chain {
+    pub weights: [u64; 100],
+    pub units: usize,
+    pub index: u64,
+    pub closes: u64,
+}
+
+pub enum Answer {
+    Figure(u64),
+    Refused(Refusal),
+}
+
+// The next record beside the figure or the refusal.
+pub struct Answered {
+    pub chain: Chain,
+    pub answer: Answer,
+}
+
+impl Chain {
+    // The figure of a quarter; the record stays as it is.
+    pub fn quarter(self, p: &[u32]) -> Answered
+        ensures { λ r. ⌜ answerFrom (r .answer) ≡ answerOf (recordOf self) (Call.quarter (now (p .entry))) ⌝ }
+        ensures { λ r. ⌜ recordOf (r .chain) ≡ after (recordOf self) (Call.quarter (now (p .entry))) ⌝ }
+    {
+        let n = self.units;
+        let index = self.index;
+        let closes = self.closes;
+        let entry = tests::admit(&self.weights, n, index, closes, p);
+        match entry {
+            Verdict::Refused(why) => Answered {
+                chain: self,
+                answer: Answer::Refused(why),
+            },
+            Verdict::Accepted => {
+                let f = tests::figure(&self.weights, n, index, p);
+                let last = tests::late(f, closes);
+                match last {
+                    Verdict::Refused(why) => Answered {
+                        chain: self,
+                        answer: Answer::Refused(why),
+                    },
+                    Verdict::Accepted => Answered {
+                        chain: self,
+                        answer: Answer::Figure(f),
+                    },
+                }
+            }
+        }
+    }
+
+    // The figure of a close, which moves the index and the weights and counts one close.
+    pub fn close(self, p: &[u32]) -> Answered
+        ensures { λ r. ⌜ answerFrom (r .answer) ≡ answerOf (recordOf self) (Call.close (now (p .entry))) ⌝ }
+        ensures { λ r. ⌜ recordOf (r .chain) ≡ after (recordOf self) (Call.close (now (p .entry))) ⌝ }
+    {
+        let n = self.units;
+        let index = self.index;
+        let closes = self.closes;
+        let entry = tests::admit(&self.weights, n, index, closes, p);
+        match entry {
+            Verdict::Refused(why) => Answered {
+                chain: self,
+                answer: Answer::Refused(why),
+            },
+            Verdict::Accepted => {
+                let f = tests::figure(&self.weights, n, index, p);
+                let mut next = self.weights;
+                passes::rescale(&mut next[..n], p, Relative::SCALE);
+                let moved = tests::judge_moved(&self.weights, &next, n);
+                match moved {
+                    Verdict::Refused(why) => Answered {
+                        chain: self,
+                        answer: Answer::Refused(why),
+                    },
+                    Verdict::Accepted => {
+                        let last = tests::late(f, closes);
+                        match last {
+                            Verdict::Refused(why) => Answered {
+                                chain: self,
+                                answer: Answer::Refused(why),
+                            },
+                            Verdict::Accepted => {
+                                let chain = Chain {
+                                    weights: next,
+                                    units: n,
+                                    index: f,
+                                    closes: closes + 1,
+                                };
+                                Answered {
+                                    chain: chain,
+                                    answer: Answer::Figure(f),
+                                }
+                            }
+                        }
+                    }
+                }
+            }
+        }
+    }
+}

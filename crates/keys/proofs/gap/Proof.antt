@@ -1,0 +1,23 @@
+-- `gap` meets its contract: n × turnover is at most 100 × 10^12, and a difference that would be negative is 0.
+use native.Mathlib.Nat.{mul-le-mul}
+use native.Mathlib.Omega.{arith}
+use borrow.Author.Needs.{needs}
+use Rattle.rules.specs.Limits.{mostPanel, mostTurnover}
+use Rattle.keys.proofs.gap.Statement.{statement}
+use Rattle.keys.proofs.gap.Tie as tie
+
+mul-reached : tie.Need-mul-reached
+mul-reached c =
+    omega (
+      arith,
+      mul-le-mul {n₁ = c .args .size} {m₁ = c .args .turnover} {n₂ = mostPanel} {m₂ = mostTurnover} (c .pre .1) (c .pre .0),
+    )
+
+returns : tie.Need-returns
+returns c = search needs
+
+returns-2 : tie.Need-returns-2
+returns-2 c = search needs
+
+pub gap-spec : {M : Type 1} → statement M
+gap-spec = tie.close (tie.spec mul-reached returns returns-2)

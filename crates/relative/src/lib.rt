@@ -1,0 +1,33 @@
+// Document 01, "Chain record": a relative is in ten-thousandths, "and the range belongs to the relative itself".
+ghost use mathlib.Core.Path.{_≡_};
+ghost use Rattle.relative.specs.Checked.{checkedOf};
+
+// A price relative that is known to be in range.
+pub struct Relative(pub u32);
+
+pub enum Checked {
+    Valid(Relative),
+    OutOfRange,
+}
+
+impl Relative {
+    pub const LOWEST: u32 = 2500;
+
+    pub const HIGHEST: u32 = 40000;
+
+    // A relative of 1. Weights are 64-bit, and so is what divides them.
+    pub const SCALE: u64 = 10000;
+
+    // The only way to a relative that is not a plain number.
+    pub fn new(x: u32) -> Checked
+        ensures { λ r. ⌜ r ≡ checkedOf x ⌝ }
+    {
+        if x < Relative::LOWEST {
+            return Checked::OutOfRange;
+        }
+        if Relative::HIGHEST < x {
+            return Checked::OutOfRange;
+        }
+        Checked::Valid(Relative(x))
+    }
+}

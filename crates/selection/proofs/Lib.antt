@@ -1,0 +1,7 @@
+pub mod Logic
+pub mod Sums
+pub mod Orders
+pub mod Places
+pub mod Least
+pub mod TakeAll
+pub mod Panel

@@ -1,0 +1,3 @@
+pub mod Later
+pub mod Refusals
+pub mod Marks

@@ -1,0 +1,81 @@
+-- Refusals as `take_all` gives them: the number is never 0, so a refused verdict leaves the buffer whole and an accepted one does not.
+use mathlib.Core.Path.{_≡_, refl, sym, ap, _∙_}
+use mathlib.Core.Bool.{Bool, true, false}
+use mathlib.Core.List.{List, _++_}
+use Prim.Native.Nat.{ℕ, zero, suc, _≤_, _<_}
+use native.Mathlib.Omega.{arith}
+use lib.ListN.{length, drop}
+use lib.Dec.{ltb}
+use borrow.Author.Tests.{ltb-false}
+use Rattle.rules.specs.Tests.{refuse}
+use Rattle.rules.specs.Selection.{listed, every}
+use Rattle.rules.specs.TakeAll.{TakeAllAnswer, refused, taken, written, badCount, badTurnovers, badSize, takeAllSize, takeAllGroup, takeAllRefusal, takeAllAnswer, takeAllMarks}
+use Rattle.refusals.specs.Number.{numberOf}
+use Rattle.refusals.specs.declared.Refusal.{Refusal}
+use Rattle.refusals.specs.declared.Refusal.the-variants.{FrameLists, UnitNumbers, Turnovers, RandomNumbers, PanelSize, ResultBuffer, OldPanel, NoStep, UnitLists, BaseWeights, Shares, StartIndex, Relatives, Sectors, StreamLength, UnknownCommand, CutShort, Place, State, FrameFull, LowWeight, WeightSum, FigureRange, ClosesSpent}
+use Rattle.frame.proofs.Refusals.{refuse-none}
+use Rattle.frame.proofs.Accepted.{Units, units}
+use Rattle.takeall.specs.Group.{Sized}
+
+-- no refusal has the number 0
+pub number-some : (why : Refusal) → (n : ℕ) × (numberOf why ≡ suc n)
+number-some FrameLists = (0, refl)
+number-some UnitNumbers = (1, refl)
+number-some Turnovers = (2, refl)
+number-some RandomNumbers = (3, refl)
+number-some PanelSize = (4, refl)
+number-some ResultBuffer = (5, refl)
+number-some OldPanel = (6, refl)
+number-some NoStep = (7, refl)
+number-some UnitLists = (8, refl)
+number-some BaseWeights = (9, refl)
+number-some Shares = (10, refl)
+number-some StartIndex = (11, refl)
+number-some Relatives = (12, refl)
+number-some Sectors = (13, refl)
+number-some StreamLength = (14, refl)
+number-some UnknownCommand = (15, refl)
+number-some CutShort = (16, refl)
+number-some Place = (17, refl)
+number-some State = (18, refl)
+number-some FrameFull = (19, refl)
+number-some LowWeight = (20, refl)
+number-some WeightSum = (21, refl)
+number-some FigureRange = (22, refl)
+number-some ClosesSpent = (23, refl)
+
+-- what is written on a refusal: nothing
+pub written-refused : (why : Refusal) (number : ℕ) (news buffer : List ℕ) → number ≡ numberOf why → written number news buffer ≡ buffer
+written-refused why number news buffer e = let s = number-some why in rw (e, s .1)
+
+module _ (ts : List ℕ) (z : ℕ) (marks : List ℕ) where
+  pub answer-refused : (why : Refusal) → takeAllRefusal ts z marks ≡ numberOf why → takeAllAnswer ts z marks ≡ refused (numberOf why)
+  unfolding takeAllAnswer
+  answer-refused why e = let s = number-some why in rw (e, s .1)
+
+  pub marks-refused : (why : Refusal) → takeAllRefusal ts z marks ≡ numberOf why → takeAllMarks ts z marks ≡ marks
+  unfolding takeAllMarks
+  marks-refused why e = written-refused why (takeAllRefusal ts z marks) _ marks e
+
+  -- what an accepted call knows: refusals 1, 3, 5 and 6 do not apply
+  passed : takeAllRefusal ts z marks ≡ 0 → (badCount ts ≡ false) × (badTurnovers ts ≡ false) × (badSize ts z ≡ false) × (ltb (length marks) (length ts) ≡ false)
+  unfolding takeAllRefusal
+  passed h =
+      let a = refuse-none (badCount ts) 0 _ h in
+      let b = refuse-none (badTurnovers ts) 2 _ (a .1) in
+      let c = refuse-none (badSize ts z) 4 _ (b .1) in
+      let d = refuse-none (ltb (length marks) (length ts)) 5 0 (c .1) in
+      (a .0, b .0, c .0, d .0)
+
+  pub sized : takeAllRefusal ts z marks ≡ 0 → Sized ts z
+  sized h =
+      let p = passed h in
+      let u = units ts z (p .0) (p .1) (p .2) in
+      record { some = u .sizeSome; most = u .sizeFew; within = u .sizeWithin; total = u .total }
+
+  pub room : takeAllRefusal ts z marks ≡ 0 → length ts ≤ length marks
+  room h = ltb-false (length marks) (length ts) (passed h .3)
+
+  pub answer-accepted : takeAllRefusal ts z marks ≡ 0 → takeAllAnswer ts z marks ≡ taken (takeAllSize ts z) (takeAllGroup ts z .sampleSize) (takeAllGroup ts z .rest)
+  unfolding takeAllAnswer
+  answer-accepted e = rw e

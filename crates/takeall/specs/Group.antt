@@ -1,0 +1,34 @@
+-- The code's take-all group in the words of `rules`: q, n, X, and the last of the q largest units, against which one comparison tells who is in the group.
+use mathlib.Core.Path.{_≡_}
+use mathlib.Core.List.{List}
+use Prim.Native.Nat.{ℕ, _+_, _≤_, _<_}
+use lib.ListN.{length}
+use Rattle.rules.specs.Limits.{mostTurnover, mostPanel}
+use Rattle.rules.specs.Lists.{sum}
+use Rattle.rules.specs.Selection.{rank, every}
+use Rattle.rules.specs.TakeAll.{larger, largest, takeAllSize, takeAllGroup}
+use Rattle.rules.specs.TakeAll.{Group as RulesGroup}
+use Rattle.takeall.specs.declared.Group.{Group}
+
+-- What the inner functions ask of turnovers and z: what refusals 3 and 5 leave.
+pub record Sized (ts : List ℕ) (z : ℕ) : Type 0 where
+  pub some : 0 < z
+  pub most : z ≤ mostPanel
+  pub within : z ≤ length ts
+  pub total : sum ts ≤ mostTurnover
+
+-- w is the last of the q largest units, where there is one
+pub record LastOf (ts : List ℕ) (q w : ℕ) : Type 0 where
+  pub unit : 0 < q → w < length ts
+  pub rank-is : 0 < q → rank every (larger ts) (length ts) w + 1 ≡ q
+
+-- the group of the `rules`: the q largest, n and X
+abbrev pub rulesGroup : List ℕ → Group → RulesGroup
+rulesGroup ts g = record { takesAll = largest ts (g .q); sampleSize = g .n; rest = g .rest }
+
+-- g is the take-all group of turnovers ts at panel size z
+pub record IsGroup (ts : List ℕ) (z : ℕ) (g : Group) : Type 0 where
+  pub size : g .q ≡ takeAllSize ts z
+  pub sample : g .n ≡ takeAllGroup ts z .sampleSize
+  pub rest-is : g .rest ≡ takeAllGroup ts z .rest
+  pub last-is : LastOf ts (g .q) (g .last)

@@ -1,0 +1,4 @@
+pub mod Tests
+pub mod Lists
+pub mod Marks
+pub mod Refusals

@@ -1,0 +1,66 @@
+/*
+ * vougecress: panel and chained price index for services (document 01), for callers in C.
+ *
+ * Lists are lent for the length of a call: a pointer and a count of elements. A call reads its input lists and writes only
+ * what is said below. Every function takes any list and any number. It answers a result, with `refusal` 0, or one refusal
+ * number of document 01, with every other field of the answer 0; after a refusal every lent list is as it was.
+ * A null pointer is allowed where the count is 0. Lists that are lent to be written may not overlap other lists of the call.
+ */
+#ifndef VOUGECRESS_H
+#define VOUGECRESS_H
+
+#include <stddef.h>
+#include <stdint.h>
+
+#ifdef __cplusplus
+extern "C" {
+#endif
+
+/* ---- Chain record ("Chain record")
+ *
+ * The record is a lent list of VOUGECRESS_RECORD numbers whose every field the caller sees. A longer list is taken, and
+ * places beyond stay; a shorter one is no record and is refused by 19 (by 6 where open is to write it).
+ */
+enum {
+    VOUGECRESS_UNITS = 0,   /* number of units */
+    VOUGECRESS_INDEX = 1,   /* C; an index of 100 is 1,000,000,000 */
+    VOUGECRESS_CLOSES = 2,  /* accepted closes */
+    VOUGECRESS_WEIGHTS = 3, /* first of 100 weights v, one a unit; places beyond the units are 0 after an open */
+    VOUGECRESS_RECORD = 103 /* places of a record */
+};
+
+struct vougecress_figure {
+    uint32_t refusal;
+    uint64_t figure;
+};
+
+/*
+ * Opens a chain: W, shares g in ten-thousandths and updating relatives a in ten-thousandths, one a unit, and a start index.
+ * Writes the first 103 places of `record`. Answers 0, or 6 (record shorter than 103), 9, 10, 11, 12, 13, 21 or 22.
+ */
+uint32_t vougecress_open(const uint64_t *weights, size_t weights_count,
+                         const uint32_t *shares, size_t shares_count,
+                         const uint32_t *relatives, size_t relatives_count,
+                         uint64_t start,
+                         uint64_t *record, size_t record_count);
+
+/* The figure F of a quarter with one relative a unit. Refusals 19, 9, 13, 23, 24. The record stays. */
+struct vougecress_figure vougecress_quarter(const uint64_t *record, size_t record_count,
+                                            const uint32_t *relatives, size_t relatives_count);
+
+/*
+ * The figure F of a year's close. The record's index becomes F, each weight floor(v x p / 10,000), and one close is counted.
+ * Refusals 19, 9, 13, 21, 22, 23, 24.
+ */
+struct vougecress_figure vougecress_close(uint64_t *record, size_t record_count,
+                                          const uint32_t *relatives, size_t relatives_count);
+
+/* ---- Total ("Total"): shares in millionths that add to 1,000,000, and an index a sector. Refusal 14. */
+struct vougecress_figure vougecress_total(const uint32_t *shares, size_t shares_count,
+                                          const uint64_t *indices, size_t indices_count);
+
+#ifdef __cplusplus
+}
+#endif
+
+#endif

@@ -1,0 +1,33 @@
+"""The generators of test cases in one place.
+
+    for case in generate.draw_cases(seed, count): ...
+    case = generate.again("draw_cases", seed, number)
+
+See `cases` for what a case is; each generator's first line says which refusals it means to hit.
+"""
+
+from cases import GENERATORS, U32, U64, Case, again
+from cases.chains import chain_cases, close_cases, open_cases, quarter_cases, total_cases
+from cases.frames import draw_cases, large_draw_cases, rotate_cases, take_all_cases
+from cases.streams import LISTING, many_draw_cases, reader_cases, stream_cases
+
+__all__ = [
+    "GENERATORS",
+    "LISTING",
+    "U32",
+    "U64",
+    "Case",
+    "again",
+    "chain_cases",
+    "close_cases",
+    "draw_cases",
+    "large_draw_cases",
+    "many_draw_cases",
+    "open_cases",
+    "quarter_cases",
+    "reader_cases",
+    "rotate_cases",
+    "stream_cases",
+    "take_all_cases",
+    "total_cases",
+]

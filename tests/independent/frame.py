@@ -1,0 +1,232 @@
+"""Document 01: "Frame and weights", "Draw" and "Rotation".
+
+Lists are handed over as Python lists. An entry never changes a list it was
+handed: buffers come back beside the answer as new lists.
+"""
+
+from dataclasses import dataclass
+from fractions import Fraction
+
+from . import Refused
+
+MOST_UNITS = 16_384
+MOST_TURNOVER = 10**12
+HIGHEST_RANDOM = 999_999
+CIRCLE = 1_000_000
+MOST_PANEL = 100
+WHOLE_FRACTION = 1_000
+STEP = 1_000
+LAST_STEP = 999
+
+
+@dataclass(frozen=True)
+class TakeAll:
+    """The take-all group: q units, given by their places in the frame; n and X for the others."""
+
+    q: int
+    n: int
+    X: int
+    group: frozenset
+
+
+@dataclass(frozen=True)
+class Taken:
+    """Answer of the take-all entry."""
+
+    q: int
+    n: int
+    X: int
+
+
+@dataclass(frozen=True)
+class Drawn:
+    """Answer of a draw."""
+
+    n: int
+    X: int
+
+
+@dataclass(frozen=True)
+class Rotated:
+    """Answer of a rotation; `count` is the number of leavers."""
+
+    k: int
+    new_start: int
+    count: int
+
+
+# Take-all
+
+
+def reaches(places, turnover, X):
+    """ "(z - q) x turnover >= X" for one unit."""
+    return places * turnover >= X
+
+
+def take_all(turnovers, z):
+    """The smallest q for which the test holds for at most q units of the whole frame."""
+    largest_first = sorted(range(len(turnovers)), key=lambda i: (-turnovers[i], i))
+    for q in range(z):
+        X = sum(turnovers[i] for i in largest_first[q:])
+        count = sum(1 for turnover in turnovers if reaches(z - q, turnover, X))
+        if count <= q:
+            return TakeAll(q, z - q, X, frozenset(largest_first[:q]))
+    # "If no q fits, q = z, n = 0 and X counts as 0 (cut-off)"; the sort above
+    # puts equal turnovers by lower place, which is the lower unit number.
+    return TakeAll(z, 0, 0, frozenset(largest_first[:z]))
+
+
+# Draw
+
+
+def shifted(random, start):
+    """ "r = R - s, plus 1,000,000 if R < s" (formula 21)."""
+    r = random - start
+    if random < start:
+        r += CIRCLE
+    return r
+
+
+def key(r, turnover, n, X):
+    """Formula 22 without the common factor n."""
+    return Fraction(r * (X - n * turnover), (CIRCLE - r) * turnover)
+
+
+def order(its_key, number):
+    """The n smallest keys are sampled; "equal keys go by lower unit number"."""
+    return (its_key, number)
+
+
+def sampled(numbers, turnovers, randoms, start, stratum):
+    """Places of the n sampled units under a start; under cut-off there is none."""
+    if stratum.n == 0:
+        return frozenset()
+    outside = []
+    for i in range(len(numbers)):
+        if i not in stratum.group:
+            r = shifted(randoms[i], start)
+            its_key = key(r, turnovers[i], stratum.n, stratum.X)
+            outside.append((order(its_key, numbers[i]), i))
+    outside.sort()
+    return frozenset(i for _, i in outside[: stratum.n])
+
+
+def base_weight(place, turnovers, stratum):
+    """W (formula 9 times n): X if sampled, n x turnover if take-all, the turnover under cut-off."""
+    if stratum.n == 0:
+        return turnovers[place]
+    if place in stratum.group:
+        return stratum.n * turnovers[place]
+    return stratum.X
+
+
+def rising(numbers):
+    """Strictly rising."""
+    return all(before < after for before, after in zip(numbers, numbers[1:]))
+
+
+def frame_refusal(numbers, turnovers, randoms, z, start):
+    """The lowest of 1 to 5 that applies, or None."""
+    units = len(numbers)
+    if len(turnovers) != units or len(randoms) != units or units == 0 or units > MOST_UNITS:
+        return 1
+    if not rising(numbers):
+        return 2
+    if 0 in turnovers or sum(turnovers) > MOST_TURNOVER:
+        return 3
+    if any(random > HIGHEST_RANDOM for random in randoms) or start > HIGHEST_RANDOM:
+        return 4
+    if size_is_wrong(z, units):
+        return 5
+    return None
+
+
+def size_is_wrong(z, units):
+    """ "5 z is 0, over 100 or over the units." """
+    return z == 0 or z > MOST_PANEL or z > units
+
+
+def draw(numbers, turnovers, randoms, z, start, out_numbers, out_weights):
+    """Answer, and both buffers as they are afterwards."""
+    refusal = frame_refusal(numbers, turnovers, randoms, z, start)
+    if refusal is None and (len(out_numbers) < z or len(out_weights) < z):
+        refusal = 6
+    if refusal is not None:
+        return Refused(refusal), list(out_numbers), list(out_weights)
+    stratum = take_all(turnovers, z)
+    chosen = stratum.group | sampled(numbers, turnovers, randoms, start, stratum)
+    # The frame rises, so places in rising order give unit numbers in rising order.
+    places = sorted(chosen)
+    panel = [numbers[i] for i in places]
+    weights = [base_weight(i, turnovers, stratum) for i in places]
+    answer = Drawn(stratum.n, stratum.X)
+    return answer, panel + out_numbers[z:], weights + out_weights[z:]
+
+
+def take_all_entry(turnovers, z, out_marks):
+    """Take-all over turnovers alone: answer, and the marks (1 take-all, 0 other) afterwards."""
+    units = len(turnovers)
+    refusal = None
+    if units == 0 or units > MOST_UNITS:
+        refusal = 1
+    elif 0 in turnovers or sum(turnovers) > MOST_TURNOVER:
+        refusal = 3
+    elif size_is_wrong(z, units):
+        refusal = 5
+    elif len(out_marks) < units:
+        refusal = 6
+    if refusal is not None:
+        return Refused(refusal), list(out_marks)
+    stratum = take_all(turnovers, z)
+    marks = [1 if i in stratum.group else 0 for i in range(units)]
+    return Taken(stratum.q, stratum.n, stratum.X), marks + out_marks[units:]
+
+
+# Rotation
+
+
+def required_leavers(f, members):
+    """ "at least f x members / 1,000, rounded up" """
+    share = Fraction(f * members, WHOLE_FRACTION)
+    return -((-share.numerator) // share.denominator)
+
+
+def rotation_refusal(old_panel, f, out_leavers):
+    """6 (for leavers) or 7, or None."""
+    if len(out_leavers) < len(old_panel):
+        return 6
+    if f > WHOLE_FRACTION or len(old_panel) > MOST_PANEL or not rising(old_panel):
+        return 7
+    return None
+
+
+def rotate(numbers, turnovers, randoms, z, old_start, old_panel, f, out_leavers):
+    """Answer, the leavers in rising order, and one allowed form of the buffer afterwards.
+
+    Document 01 leaves the leavers' order free: compare with `same_leavers`.
+    """
+    refusal = frame_refusal(numbers, turnovers, randoms, z, old_start)
+    if refusal is None:
+        refusal = rotation_refusal(old_panel, f, out_leavers)
+    if refusal is not None:
+        return Refused(refusal), [], list(out_leavers)
+    stratum = take_all(turnovers, z)
+    # "members are old panel units that are in the frame and not take-all now"
+    old = set(old_panel)
+    members = [i for i in range(len(numbers)) if numbers[i] in old and i not in stratum.group]
+    required = required_leavers(f, len(members))
+    for k in range(LAST_STEP + 1):
+        start = (old_start + STEP * k) % CIRCLE
+        stay = sampled(numbers, turnovers, randoms, start, stratum)
+        leavers = [numbers[i] for i in members if i not in stay]
+        if len(leavers) >= required:
+            after = leavers + out_leavers[len(leavers):]
+            return Rotated(k, start, len(leavers)), leavers, after
+    return Refused(8), [], list(out_leavers)
+
+
+def same_leavers(buffer_after, buffer_before, leavers):
+    """Is the buffer a rearrangement of the leavers in its first places, the rest untouched?"""
+    count = len(leavers)
+    arranged = sorted(buffer_after[:count]) == sorted(leavers)
+    return arranged and buffer_after[count:] == buffer_before[count:]

@@ -1,0 +1,161 @@
+"""The built library, called through its C interface (include/vougecress.h).
+
+Each function takes and answers what its namesake of `independent` does, so that a
+test hands both the same data. Lists are copied into C arrays and read back whole,
+so a place that the library wrote without leave shows.
+"""
+
+import ctypes
+import subprocess
+from ctypes import POINTER, Structure, c_size_t, c_uint8, c_uint32, c_uint64
+from functools import cache
+from pathlib import Path
+
+from independent import Refused
+from independent.chain import Figure, Record, Total
+from independent.frame import Drawn, Rotated, Taken
+
+TOP = Path(__file__).resolve().parent.parent
+PLACES = 100
+FIELDS_BEFORE_WEIGHTS = 3
+
+
+def answer_type(*fields):
+    """An answer struct: the refusal number and then these fields."""
+    return type("Answer", (Structure,), {"_fields_": [("refusal", c_uint32), *fields]})
+
+
+FigureAnswer = answer_type(("figure", c_uint64))
+TakenAnswer = answer_type(("q", c_uint64), ("n", c_uint64), ("rest", c_uint64))
+DrawnAnswer = answer_type(("n", c_uint64), ("rest", c_uint64))
+RotatedAnswer = answer_type(("k", c_uint32), ("start", c_uint32), ("count", c_uint64))
+
+# name -> answer type and parameter types; a list is a pointer and a count
+SIGNATURES = {
+    "vougecress_open": (c_uint32, ("u64s", "u32s", "u32s", c_uint64, "u64s")),
+    "vougecress_quarter": (FigureAnswer, ("u64s", "u32s")),
+    "vougecress_close": (FigureAnswer, ("u64s", "u32s")),
+    "vougecress_total": (FigureAnswer, ("u32s", "u64s")),
+    "vougecress_take_all": (TakenAnswer, ("u64s", c_size_t, "u8s")),
+    "vougecress_draw": (DrawnAnswer, ("u32s", "u64s", "u32s", c_size_t, c_uint32, "u32s", "u64s")),
+    "vougecress_rotate": (RotatedAnswer, ("u32s", "u64s", "u32s", c_size_t, c_uint32, "u32s", c_uint32, "u32s")),
+}
+ELEMENTS = {"u8s": c_uint8, "u32s": c_uint32, "u64s": c_uint64}
+
+
+@cache
+def built():
+    """The shared library, built by the README's command, with its functions declared."""
+    subprocess.run([str(TOP / "build.sh")], check=True, capture_output=True)
+    library = ctypes.CDLL(str(TOP / "build" / "libvougecress.so"))
+    for name, (result, parameters) in SIGNATURES.items():
+        function = getattr(library, name, None)
+        if function is not None:
+            function.restype = result
+            function.argtypes = [t for p in parameters for t in spread(p)]
+    return library
+
+
+def spread(parameter):
+    if parameter in ELEMENTS:
+        return [POINTER(ELEMENTS[parameter]), c_size_t]
+    return [parameter]
+
+
+def call(name, *arguments):
+    """The answer, and every list as it is after the call, in the order of the parameters."""
+    _, parameters = SIGNATURES[name]
+    passed, lists = [], []
+    for parameter, argument in zip(parameters, arguments, strict=True):
+        if parameter in ELEMENTS:
+            array = (ELEMENTS[parameter] * len(argument))(*argument)
+            lists.append(array)
+            passed += [array, len(argument)]
+        else:
+            passed.append(argument)
+    answer = getattr(built(), name)(*passed)
+    return answer, [list(array) for array in lists]
+
+
+def refusal_of(answer):
+    """Refused, or None; after a refusal every other field is 0."""
+    if answer.refusal == 0:
+        return None
+    others = [getattr(answer, name) for name, _ in answer._fields_[1:]]
+    if any(others):
+        return ("a refusal with more than its number", answer.refusal, others)
+    return Refused(answer.refusal)
+
+
+def unchanged(lists, arguments):
+    """Raise if a list that is only read was written."""
+    if any(after != list(before) for after, before in zip(lists, arguments)):
+        raise AssertionError("a list that was lent to be read is changed")
+
+
+# Chain
+
+
+def as_list(record):
+    return [record.units, record.index, record.closes] + list(record.weights)
+
+
+def as_record(numbers):
+    units, index, closes = numbers[:FIELDS_BEFORE_WEIGHTS]
+    return Record(units, numbers[FIELDS_BEFORE_WEIGHTS:], index, closes)
+
+
+def open_chain(W, g, a, start):
+    """The new record, or a refusal that left the lent record as it was."""
+    before = [7] * (FIELDS_BEFORE_WEIGHTS + PLACES)
+    number, (*inputs, after) = call("vougecress_open", W, g, a, start, before)
+    unchanged(inputs, (W, g, a))
+    if number == 0:
+        return as_record(after)
+    return Refused(number) if after == before else ("a refused open wrote its record", number)
+
+
+def called(name, record, p):
+    answer, (after, relatives) = call(name, as_list(record), p)
+    unchanged([relatives], [p])
+    return as_record(after), refusal_of(answer) or Figure(answer.figure)
+
+
+def quarter(record, p):
+    return called("vougecress_quarter", record, p)
+
+
+def close(record, p):
+    return called("vougecress_close", record, p)
+
+
+def total(shares, indices):
+    answer, lists = call("vougecress_total", shares, indices)
+    unchanged(lists, (shares, indices))
+    return refusal_of(answer) or Total(answer.figure)
+
+
+# Frame
+
+
+def take_all_entry(turnovers, z, out_marks):
+    answer, (read, marks) = call("vougecress_take_all", turnovers, z, out_marks)
+    unchanged([read], [turnovers])
+    return refusal_of(answer) or Taken(answer.q, answer.n, answer.rest), marks
+
+
+def draw(numbers, turnovers, randoms, z, start, out_numbers, out_weights):
+    answer, (*read, after_numbers, after_weights) = call(
+        "vougecress_draw", numbers, turnovers, randoms, z, start, out_numbers, out_weights
+    )
+    unchanged(read, (numbers, turnovers, randoms))
+    return refusal_of(answer) or Drawn(answer.n, answer.rest), after_numbers, after_weights
+
+
+def rotate(numbers, turnovers, randoms, z, old_start, old_panel, f, out_leavers):
+    """The answer and the buffer afterwards."""
+    answer, (*read, leavers) = call(
+        "vougecress_rotate", numbers, turnovers, randoms, z, old_start, old_panel, f, out_leavers
+    )
+    unchanged(read, (numbers, turnovers, randoms, old_panel))
+    return refusal_of(answer) or Rotated(answer.k, answer.start, answer.count), leavers

@@ -1,0 +1,155 @@
+"""The built library against the independent computation, through the C interface, on every generator's cases."""
+
+from collections import Counter
+
+import generate
+import library
+from independent import Refused, chain, frame
+from independent.chain import Direct, Figure, Record, within_bound
+
+# Refusals that each entry has; each must be met many times.
+REFUSALS = {
+    "take_all_cases": {1, 3, 5, 6},
+    "draw_cases": {1, 2, 3, 4, 5, 6},
+    "rotate_cases": {1, 2, 3, 4, 5, 6, 7, 8},
+    "open_cases": {9, 10, 11, 12, 13, 21, 22},
+    "quarter_cases": {9, 13, 19, 23, 24},
+    "close_cases": {9, 13, 19, 21, 22, 23, 24},
+    "total_cases": {14},
+}
+
+
+def compared(t, name, short, long, ours, theirs):
+    """Each case of a generator: both give the same; each refusal of the entry is met, and so is an answer."""
+    met = Counter()
+    for case in generate.GENERATORS[name](t.seed, t.count(short, long)):
+        expected = theirs(case.data)
+        told = expected[0] if isinstance(expected, tuple) else expected
+        met[told.number if isinstance(told, Refused) else 0] += 1
+        t.check(ours(case.data) == expected, f"{name}: the library answers as the independent computation", repeat=case)
+    for number in REFUSALS[name] | {0}:
+        t.check(met[number] > 0, f"{name}: refusal {number} (0: accepted) is met", repeat=dict(met))
+
+
+def test_take_all(t):
+    compared(t, "take_all_cases", 400, 20_000, lambda d: library.take_all_entry(**d), lambda d: frame.take_all_entry(**d))
+
+
+def test_draw(t):
+    compared(t, "draw_cases", 600, 20_000, lambda d: library.draw(**d), lambda d: frame.draw(**d))
+
+
+def test_large_draw(t):
+    """Frames of up to 16,384 units."""
+    for case in generate.large_draw_cases(t.seed, t.count(4, 60)):
+        expected = frame.draw(**case.data)
+        t.check(library.draw(**case.data) == expected, "large frames: the library draws the same panel", repeat=case.what)
+
+
+def rotation_of(data):
+    answer, leavers, _ = frame.rotate(**data)
+    return answer, leavers
+
+
+def test_rotate(t):
+    """The leavers' order is free, so the buffer is compared as a rearrangement."""
+    met = Counter()
+    for case in generate.rotate_cases(t.seed, t.count(150, 4_000)):
+        expected, leavers = rotation_of(case.data)
+        answer, buffer = library.rotate(**case.data)
+        met[expected.number if isinstance(expected, Refused) else 0] += 1
+        t.check(answer == expected, "rotate: the library answers as the independent computation", repeat=case)
+        same = frame.same_leavers(buffer, case.data["out_leavers"], leavers)
+        t.check(same, "rotate: the buffer holds the leavers, each once, and nothing else is touched", repeat=case)
+    for number in REFUSALS["rotate_cases"] | {0}:
+        t.check(met[number] > 0, f"rotate: refusal {number} (0: accepted) is met", repeat=dict(met))
+
+
+def test_leavers_are_not_drawn(t):
+    """A draw of the library under the answered start lacks exactly the leavers among the members."""
+    for case in generate.rotate_cases(t.seed + 1, t.count(60, 1_000)):
+        data = case.data
+        answer, buffer = library.rotate(**data)
+        if isinstance(answer, Refused):
+            continue
+        room = [0] * data["z"]
+        lists = (data["numbers"], data["turnovers"], data["randoms"])
+        _, panel, _ = library.draw(*lists, data["z"], answer.new_start, room, room)
+        gone = {n for n in data["old_panel"] if n in data["numbers"]} - set(panel)
+        t.check(gone == set(buffer[: answer.count]), "rotate: the new panel lacks exactly the leavers", repeat=case)
+
+
+def test_open(t):
+    compared(t, "open_cases", 600, 30_000, lambda d: library.open_chain(**d), lambda d: chain.open_chain(**d))
+
+
+def on_record(call):
+    def tried(data):
+        record = Record(data["units"], data["weights"], data["index"], data["closes"])
+        after, answer = call(record, data["p"])
+        return answer, after
+
+    return tried
+
+
+def test_quarter(t):
+    compared(t, "quarter_cases", 600, 30_000, on_record(library.quarter), on_record(chain.quarter))
+
+
+def test_close(t):
+    compared(t, "close_cases", 600, 30_000, on_record(library.close), on_record(chain.close))
+
+
+def test_total(t):
+    compared(t, "total_cases", 400, 20_000, lambda d: library.total(**d), lambda d: chain.total(**d))
+
+
+def test_record_list(t):
+    """A record that is shorter than 103 places is none: 19, and 6 where open is to write it; one place more stays."""
+    full = [1, 10**9, 0, 10**6] + [0] * 99
+    answer, (after, _) = library.call("vougecress_close", full[:-1], [10_000])
+    t.check((answer.refusal, answer.figure, after) == (19, 0, full[:-1]), "a record one place short is refused by 19")
+    answer, _ = library.call("vougecress_quarter", full[:-1], [10_000])
+    t.check((answer.refusal, answer.figure) == (19, 0), "a record one place short is refused by 19 at a quarter")
+    answer, (after, _) = library.call("vougecress_close", full + [5], [20_000])
+    t.check(answer.figure == 2 * 10**9 and after[-1] == 5, "a place beyond the record stays")
+    opening = ([10**6], [10_000], [10_000], 10**9)
+    for room, number in ((102, 6), (103, 0), (104, 0)):
+        answer, (*_, after) = library.call("vougecress_open", *opening, [8] * room)
+        t.check(answer == number, f"open with a record of {room} places")
+        t.check(after[103:] == [8] * (room - 103) if number == 0 else after == [8] * room, "open writes 103 places")
+    answer, (*_, after) = library.call("vougecress_open", [], [], [], 10**9, [8] * 102)
+    t.check(answer == 6, "6 is lower than 9")
+
+
+def test_chains(t):
+    """Whole chains: digit by digit, and every figure within the bound of demand 3 by exact fractions."""
+    figures = 0
+    longest = 0
+    for case in generate.chain_cases(t.seed, t.count(250, 5_000)):
+        figures_here, closes = follow(t, case)
+        figures += figures_here
+        longest = max(longest, closes)
+    t.check(figures > 1_000, "many figures were compared", repeat=figures)
+    t.check(longest == 40, "some chain reached forty closes", repeat=longest)
+
+
+def follow(t, case):
+    """One chain through the library beside the independent one; the count of figures and of closes."""
+    data = case.data
+    arguments = (data["W"], data["g"], data["a"], data["start"])
+    ours, theirs = library.open_chain(*arguments), chain.open_chain(*arguments)
+    t.check(ours == theirs, "chain: the open", repeat=case)
+    if isinstance(theirs, Refused):
+        return 0, 0
+    exact, figures = Direct(*arguments), 0
+    for name, p in data["calls"]:
+        ours, told = getattr(library, name)(ours, p)
+        theirs, expected = getattr(chain, name)(theirs, p)
+        t.check((told, ours) == (expected, theirs), f"chain: a {name} and the record after it", repeat=case)
+        if isinstance(expected, Figure):
+            figures += 1
+            t.check(within_bound(told.F, exact.D(p), exact.m), "chain: the figure is within the bound", repeat=case)
+            if name == "close":
+                exact.closed(p)
+    return figures, theirs.closes
