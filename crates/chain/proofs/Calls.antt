@@ -1,19 +1,19 @@
 -- Laws of a call's refusals and of what it answers (`rules`, Chain): what an admitted call knows, how 19, 9 and 13 stop it or let it go on, and the answer and the record that go with a refusal or a figure.
-use mathlib.Core.Path.{_≡_, refl, sym, ap, _∙_}
-use mathlib.Core.Bool.{Bool, true, false, not}
+use mathlib.Core.Path.{_≡_, refl, sym, _∙_}
+use mathlib.Core.Bool.{false, not}
 use mathlib.Core.List.{List, _++_}
-use Prim.Native.Nat.{ℕ, zero, suc, _+_, _<_, _≤_, _^_}
+use Prim.Native.Nat.{ℕ, _<_, _≤_, _^_}
 use native.Mathlib.Omega.{arith}
-use lib.Dec.{leb, ltb, eqb}
+use lib.Dec.{ltb, eqb}
 use lib.ListN.{length, take, drop, length-append, length-drop}
 use lib.Seq.{length-take-le, take-at}
 use borrow.Author.Tests.{ltb-false, eqb-true, eqb-false, not-false}
 use Rattle.refusals.specs.Number.{numberOf}
 use Rattle.refusals.specs.declared.Refusal.{Refusal}
 use Rattle.rules.specs.Limits.{relativeScale, mostPanel, mostWeight, mostCloses, lowestIndex, highestIndex}
-use Rattle.rules.specs.Tests.{_or_, refuse}
-use Rattle.rules.specs.Lists.{sum, products, scaled, anyPair}
-use Rattle.rules.specs.Chain.{Chain, held, badUnits, badIndex, badWeight, badRelative, broken, callRefusal, moved, Answer, answerBy, afterBy}
+use Rattle.rules.specs.Tests.{refuse}
+use Rattle.rules.specs.Lists.{sum, products, anyPair}
+use Rattle.rules.specs.Chain.{Chain, held, badUnits, badIndex, badWeight, badRelative, broken, callRefusal, moved, answerBy, afterBy}
 use Rattle.weights.proofs.Tests.{or-false, within, passed, stops}
 use Rattle.weights.proofs.Lists.{products-bound, length-scaled}
 use Rattle.weights.proofs.Refusals.{number-is-suc, not-none}

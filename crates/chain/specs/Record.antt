@@ -3,9 +3,11 @@ use Prim.Native.Nat.{ℕ, _<_, _≤_}
 use mathlib.Core.Path.{_≡_}
 use mathlib.Core.Bool.{false}
 use mathlib.Core.List.{List}
+use lib.Dec.{leb}
 use lib.ListN.{length}
 use Rattle.refusals.specs.Number.{numberOf}
-use Rattle.rules.specs.Limits.{mostWeight, highestIndex}
+use Rattle.rules.specs.Limits.{mostWeight, highestIndex, mostCloses}
+use Rattle.rules.specs.Tests.{refuse}
 use Rattle.rules.specs.Lists.{sum, anyPair}
 use Rattle.rules.specs.Chain as rules
 use Rattle.chain.specs.declared.Chain.{Chain}
@@ -25,6 +27,10 @@ recordOf c = recordWith (c .weights) (c .units) (c .index) (c .closes)
 abbrev pub answerFrom : Answer → rules.Answer
 answerFrom (Figure f) = rules.Answer.figure f
 answerFrom (Refused why) = rules.Answer.refused (numberOf why)
+
+-- 23 and 24 by the figure and the closes: `lateRefusal` of `rules` at a call's figure
+abbrev pub lastRefusal : ℕ → ℕ → ℕ
+lastRefusal f closes = refuse (rules.badIndex f) 23 (refuse (leb mostCloses closes) 24 0)
 
 -- what a figure needs of the units' v, the index and the relatives so that no number on the way is too large
 pub record Reckonable (held : List ℕ) (index : ℕ) (ps : List ℕ) : Type 0 where

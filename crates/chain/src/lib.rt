@@ -1,12 +1,11 @@
 // Document 01, "Chain record": quarter and close, by value on the record. Opening a record is the crate `opening`.
-pub mod tests;
+pub mod steps;
 
 use refusals::Refusal;
 use refusals::Verdict;
 use relative::Relative;
 use weights::passes;
 ghost use mathlib.Core.Path.{_≡_};
-ghost use mathlib.Core.List.{List};
 ghost use Rattle.rules.specs.Chain.{Call, answerOf, after};
 ghost use Rattle.chain.specs.Record.{recordOf, answerFrom};
 
@@ -38,15 +37,15 @@ impl Chain {
         let n = self.units;
         let index = self.index;
         let closes = self.closes;
-        let entry = tests::admit(&self.weights, n, index, closes, p);
+        let entry = steps::judge_call(&self.weights, n, index, closes, p);
         match entry {
             Verdict::Refused(why) => Answered {
                 chain: self,
                 answer: Answer::Refused(why),
             },
             Verdict::Accepted => {
-                let f = tests::figure(&self.weights, n, index, p);
-                let last = tests::late(f, closes);
+                let f = steps::figure(&self.weights, n, index, p);
+                let last = steps::judge_last(f, closes);
                 match last {
                     Verdict::Refused(why) => Answered {
                         chain: self,
@@ -69,41 +68,32 @@ impl Chain {
         let n = self.units;
         let index = self.index;
         let closes = self.closes;
-        let entry = tests::admit(&self.weights, n, index, closes, p);
+        let entry = steps::judge_call(&self.weights, n, index, closes, p);
         match entry {
             Verdict::Refused(why) => Answered {
                 chain: self,
                 answer: Answer::Refused(why),
             },
             Verdict::Accepted => {
-                let f = tests::figure(&self.weights, n, index, p);
+                let f = steps::figure(&self.weights, n, index, p);
                 let mut next = self.weights;
                 passes::rescale(&mut next[..n], p, Relative::SCALE);
-                let moved = tests::judge_moved(&self.weights, &next, n);
-                match moved {
+                let rest = steps::judge_close(&self.weights, &next, n, f, closes);
+                match rest {
                     Verdict::Refused(why) => Answered {
                         chain: self,
                         answer: Answer::Refused(why),
                     },
                     Verdict::Accepted => {
-                        let last = tests::late(f, closes);
-                        match last {
-                            Verdict::Refused(why) => Answered {
-                                chain: self,
-                                answer: Answer::Refused(why),
-                            },
-                            Verdict::Accepted => {
-                                let chain = Chain {
-                                    weights: next,
-                                    units: n,
-                                    index: f,
-                                    closes: closes + 1,
-                                };
-                                Answered {
-                                    chain: chain,
-                                    answer: Answer::Figure(f),
-                                }
-                            }
+                        let chain = Chain {
+                            weights: next,
+                            units: n,
+                            index: f,
+                            closes: closes + 1,
+                        };
+                        Answered {
+                            chain: chain,
+                            answer: Answer::Figure(f),
                         }
                     }
                 }

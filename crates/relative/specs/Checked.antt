@@ -3,7 +3,6 @@ use Prim.Native.Nat.{ℕ}
 use mathlib.Core.Bool.{Bool, true, false}
 use Rattle.rules.specs.Limits.{lowestRelative, highestRelative}
 use Rattle.rules.specs.Tests.{outside}
-use Rattle.relative.specs.declared.Relative.{Relative}
 use Rattle.relative.specs.declared.Checked.{Checked}
 use Rattle.relative.specs.declared.Checked.the-variants.{Valid, OutOfRange}
 

@@ -1,17 +1,16 @@
 -- Laws of the lists (`rules`, Lists) for the passes over them: what one turn of a loop at i takes off what is left, and bounds of the sums.
 use mathlib.Core.Path.{_≡_, refl, sym, ap, ap₂, _∙_}
-use mathlib.Core.Bool.{Bool, true, false, not, true≢false, false≢true}
+use mathlib.Core.Bool.{Bool, true, false}
 use mathlib.Core.List.{List, [], _∷_, _++_, append-nil}
 use Prim.Native.Nat.{ℕ, zero, suc, _+_, _*_, _/_, _<_, _≤_, zero-le}
-use native.Mathlib.Nat.{le-of-suc-le-suc, not-suc-le-zero, zero-mul, mul-zero, mul-le-mul-left, div-le-of-le-mul}
+use native.Mathlib.Nat.{le-of-suc-le-suc, not-suc-le-zero, zero-mul, mul-zero, mul-le-mul-left}
 use native.Mathlib.Numerals.{add-one}
 use native.Mathlib.Omega.{arith}
-use lib.Dec.{ltb, eqb}
 use lib.ListN.{length, getD, take, drop, set, drop-of-length-le}
 use lib.Seq.{drop-cons, take-all}
 use borrow.Author.Tests.{not-false, eqb-true}
 use Rattle.rules.specs.Limits.{lowestRelative, highestRelative}
-use Rattle.rules.specs.Tests.{_or_, outside}
+use Rattle.rules.specs.Tests.{_or_}
 use Rattle.rules.specs.Lists.{sum, products, scaled, anyOf, anyPair}
 use Rattle.rules.specs.Chain.{badRelative}
 use Rattle.weights.proofs.Tests.{or-holds, or-next, or-false, within}

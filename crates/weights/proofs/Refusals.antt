@@ -1,18 +1,17 @@
 -- Laws of the refusals that several calls share: no case has the number 0, and 21 and 22 stop a call or let it go on.
 use mathlib.Core.Path.{_≡_, refl, sym, _∙_}
-use mathlib.Core.Bool.{Bool, true, false}
 use mathlib.Core.List.{List}
-use Prim.Native.Nat.{ℕ, zero, suc, pred}
+use Prim.Native.Nat.{ℕ, suc, pred}
 use native.Mathlib.Omega.{arith}
 use lib.Dec.{ltb}
-use Rattle.refusals.specs.Number.{numberOf, verdictOf}
+use Rattle.refusals.specs.Number.{numberOf}
 use Rattle.refusals.specs.declared.Refusal.{Refusal}
 use Rattle.refusals.specs.declared.Refusal.the-variants.{FrameLists, UnitNumbers, Turnovers, RandomNumbers, PanelSize, ResultBuffer, OldPanel, NoStep, UnitLists, BaseWeights, Shares, StartIndex, Relatives, Sectors, StreamLength, UnknownCommand, CutShort, Place, State, FrameFull, LowWeight, WeightSum, FigureRange, ClosesSpent}
 use Rattle.rules.specs.Limits.{mostWeight}
 use Rattle.rules.specs.Tests.{refuse}
 use Rattle.rules.specs.Lists.{sum, anyPair}
 use Rattle.rules.specs.Chain.{badWeight}
-use Rattle.weights.specs.Weighed.{weightRefusal}
+use Rattle.weights.specs.WeightRefusal.{weightRefusal}
 use Rattle.weights.proofs.Tests.{passed, stops}
 
 pub number-is-suc : (why : Refusal) → numberOf why ≡ suc (pred (numberOf why))

@@ -1,7 +1,7 @@
 -- Laws of tests and refusals (`rules`, Tests): what a test that passed or failed makes of those that follow.
-use mathlib.Core.Path.{_≡_, refl, sym, ap, _∙_}
-use mathlib.Core.Bool.{Bool, true, false, not, true≢false, false≢true}
-use Prim.Native.Nat.{ℕ, zero, suc, _+_, _<_, _≤_, min}
+use mathlib.Core.Path.{_≡_, refl}
+use mathlib.Core.Bool.{Bool, true, false, true≢false, false≢true}
+use Prim.Native.Nat.{ℕ, suc, _+_, _<_, _≤_, min}
 use native.Mathlib.Omega.{arith}
 use lib.Dec.{ltb, eqb}
 use borrow.Author.Tests.{ltb-true, ltb-false, lt-ltb, le-ltb, eqb-true, eqb-false, eq-eqb, ne-eqb}
@@ -24,6 +24,12 @@ pub or-second : (a b : Bool) → b ≡ true → (a or b) ≡ true
 unfolding _or_
 or-second true b h = refl
 or-second false b h = h
+
+-- a next one that fails leaves the first
+pub or-none : (a b : Bool) → b ≡ false → (a or b) ≡ a
+unfolding _or_
+or-none true b h = refl
+or-none false b h = h
 
 -- tests of the first unit and of the others, in another order
 pub or-exchange : (a others b others′ : Bool) → ((a or others) or (b or others′)) ≡ ((a or b) or (others or others′))

@@ -8,14 +8,11 @@ use refusals::Verdict;
 use relative::Checked;
 use relative::Relative;
 ghost use mathlib.Core.Path.{_≡_};
-ghost use mathlib.Core.List.{List};
-ghost use Prim.Native.Nat.{_+_, _<_, min};
+ghost use Prim.Native.Nat.{_<_};
 ghost use lib.ListN.{length};
 ghost use Rattle.refusals.specs.Number.{verdictOf};
-ghost use Rattle.rules.specs.Limits.{mostWeight};
-ghost use Rattle.rules.specs.Lists.{sum, anyPair};
 ghost use Rattle.rules.specs.Chain.{badUnits, badRelative, badWeight};
-ghost use Rattle.weights.specs.Weighed.{weightRefusal};
+ghost use Rattle.weights.specs.WeightRefusal.{weightRefusal};
 
 pub const MOST_PANEL: usize = 100;
 
@@ -57,7 +54,7 @@ pub fn bad_relative(mark: u64, p: u32) -> bool
 }
 
 // 21 and 22 of the weights that an open or a close would leave.
-pub fn weigh(marks: &[u64], weights: &[u64]) -> Verdict
+pub fn judge_weights(marks: &[u64], weights: &[u64]) -> Verdict
     requires { ⌜ length (now marks) ≡ length (now weights) ⌝ }
     ensures { λ r. ⌜ verdictOf r ≡ weightRefusal (now (marks .entry)) (now (weights .entry)) 0 ⌝ }
 {

@@ -3,7 +3,6 @@ use crate::MOST_WEIGHT;
 use crate::bad_relative;
 use crate::bad_weight;
 ghost use mathlib.Core.Path.{_≡_};
-ghost use mathlib.Core.List.{List};
 ghost use Prim.Native.Nat.{_+_, _<_, _^_, min};
 ghost use lib.ListN.{length};
 ghost use Rattle.rules.specs.Limits.{mostWeight};
@@ -90,7 +89,9 @@ pub fn rescale(v: &mut [u64], p: &[u32], scale: u64)
 {
     let mut i: usize = 0;
     while i < v.len() {
-        v[i] = v[i] * (p[i] as u64) / scale;
+        let x = v[i];
+        let moved = x * (p[i] as u64) / scale;
+        v[i] = moved;
         i += 1;
     }
 }

@@ -1,5 +1,5 @@
 -- `bad_relative` by the mark: 0 for an absent unit, and what the checking constructor says for a present one.
-use mathlib.Core.Path.{_≡_, sym, ap, _∙_}
+use mathlib.Core.Path.{sym, ap, _∙_}
 use Rattle.rules.specs.Limits.{lowestRelative, highestRelative}
 use Rattle.rules.specs.Tests.{outside}
 use Rattle.weights.proofs.Marks.{relative-absent, relative-present, isOut, out-is}

@@ -3,19 +3,16 @@ use mathlib.Core.Path.{_≡_, refl, sym, ap, _∙_}
 use Prim.Native.Nat.{ℕ}
 use lib.ListN.{length}
 use Rattle.refusals.specs.Number.{numberOf, verdictOf}
-use Rattle.rules.specs.Tests.{refuse}
-use Rattle.rules.specs.Limits.{mostPanel, mostCloses}
-use lib.Dec.{leb}
-use Rattle.rules.specs.Chain as rules
-use Rattle.rules.specs.Chain.{Call, held, badIndex, callRefusal, figureOf, lateRefusal, refusalOf, answerOf, after}
-use Rattle.chain.specs.Record.{recordOf}
-use Rattle.chain.proofs.Calls.{Admitted, admitted, call-stops, call-goes, units-fit, reckonable, refused-answer, refused-record, figure-answer, figure-record}
+use Rattle.rules.specs.Limits.{mostPanel}
+use Rattle.rules.specs.Chain.{Call, held, callRefusal, figureOf, lateRefusal, refusalOf, answerOf, after}
+use Rattle.chain.specs.Record.{recordOf, lastRefusal}
+use Rattle.chain.proofs.Calls.{admitted, call-stops, call-goes, units-fit, reckonable, refused-answer, refused-record, figure-answer, figure-record}
 use borrow.Author.Needs.{needs}
 use Rattle.chain.proofs.Chain.quarter.Statement.{statement}
 use Rattle.chain.proofs.Chain.quarter.Tie as tie
 
-admit-requires : tie.Need-admit-requires
-admit-requires c κs = search needs
+judge-call-requires : tie.Need-judge-call-requires
+judge-call-requires c κs = search needs
 
 enum-known-entry : tie.Need-enum-known-entry
 enum-known-entry c = search needs
@@ -29,11 +26,11 @@ figure-requires c κs =
     let r = recordOf (c .before .before .before .before .before .before .before .before .before .before .args .t1) in
     let ps = c .before .before .before .before .before .before .before .before .before .before .args .p .now in
     let places : length (r .weights) ≡ mostPanel = search needs in
-    let a = admitted r ps (sym (c .before .before .before .before .before .admit .ensures) ∙ ap verdictOf (c .before .before .before .enum-told .given .1)) in
+    let a = admitted r ps (sym (c .before .before .before .before .before .judge-call .ensures) ∙ ap verdictOf (c .before .before .before .enum-told .given .1)) in
     (units-fit r ps places a, reckonable r ps places a)
 
-late-requires : tie.Need-late-requires
-late-requires c κs = search needs
+judge-last-requires : tie.Need-judge-last-requires
+judge-last-requires c κs = search needs
 
 enum-known-last : tie.Need-enum-known-last
 enum-known-last c = search needs
@@ -47,7 +44,7 @@ returns c =
     let r = recordOf (c .before .before .before .before .before .before .before .before .args .t1) in
     let ps = c .before .before .before .before .before .before .before .before .args .p .now in
     let why = c .before .entry .given .0 .0 in
-    let e : numberOf why ≡ callRefusal r ps 0 = sym (ap verdictOf (c .before .entry .given .1)) ∙ c .before .before .before .admit .ensures in
+    let e : numberOf why ≡ callRefusal r ps 0 = sym (ap verdictOf (c .before .entry .given .1)) ∙ c .before .before .before .judge-call .ensures in
     let n : refusalOf r (Call.quarter ps) ≡ numberOf why = call-stops r ps (lateRefusal r ps) why e in
     (refused-answer _ (figureOf r ps) why n, refused-record _ r r why n)
 
@@ -57,9 +54,9 @@ returns-2 c =
     let r = recordOf (c .before .before .before .before .before .before .before .before .before .before .before .before .before .before .before .args .t1) in
     let ps = c .before .before .before .before .before .before .before .before .before .before .before .before .before .before .before .args .p .now in
     let why = c .before .last .given .0 .0 in
-    let goes = call-goes r ps (lateRefusal r ps) (sym (c .before .before .before .before .before .before .before .before .before .before .admit .ensures) ∙ ap verdictOf (c .before .before .before .before .before .before .before .before .enum-told .given .1)) in
-    let late = ap (λ (f : ℕ). refuse (badIndex f) 23 (refuse (leb mostCloses (r .closes)) 24 0)) (c .before .before .before .before .figure .ensures) in
-    let n : refusalOf r (Call.quarter ps) ≡ numberOf why = goes ∙ sym late ∙ sym (c .before .before .before .late .ensures) ∙ ap verdictOf (c .before .last .given .1) in
+    let goes = call-goes r ps (lateRefusal r ps) (sym (c .before .before .before .before .before .before .before .before .before .before .judge-call .ensures) ∙ ap verdictOf (c .before .before .before .before .before .before .before .before .enum-told .given .1)) in
+    let late = ap (λ (f : ℕ). lastRefusal f (r .closes)) (c .before .before .before .before .figure .ensures) in
+    let n : refusalOf r (Call.quarter ps) ≡ numberOf why = goes ∙ sym late ∙ sym (c .before .before .before .judge-last .ensures) ∙ ap verdictOf (c .before .last .given .1) in
     (refused-answer _ (figureOf r ps) why n, refused-record _ r r why n)
 
 returns-3 : tie.Need-returns-3
@@ -67,20 +64,20 @@ unfolding answerOf after refusalOf lateRefusal held
 returns-3 c =
     let r = recordOf (c .before .before .before .before .before .before .before .before .before .before .before .before .before .before .args .t1) in
     let ps = c .before .before .before .before .before .before .before .before .before .before .before .before .before .before .args .p .now in
-    let goes = call-goes r ps (lateRefusal r ps) (sym (c .before .before .before .before .before .before .before .before .before .admit .ensures) ∙ ap verdictOf (c .before .before .before .before .before .before .before .enum-told .given .1)) in
-    let late = ap (λ (f : ℕ). refuse (badIndex f) 23 (refuse (leb mostCloses (r .closes)) 24 0)) (c .before .before .before .figure .ensures) in
-    let n : refusalOf r (Call.quarter ps) ≡ 0 = goes ∙ sym late ∙ sym (c .before .before .late .ensures) ∙ ap verdictOf (c .enum-told2 .given .1) in
+    let goes = call-goes r ps (lateRefusal r ps) (sym (c .before .before .before .before .before .before .before .before .before .judge-call .ensures) ∙ ap verdictOf (c .before .before .before .before .before .before .before .enum-told .given .1)) in
+    let late = ap (λ (f : ℕ). lastRefusal f (r .closes)) (c .before .before .before .figure .ensures) in
+    let n : refusalOf r (Call.quarter ps) ≡ 0 = goes ∙ sym late ∙ sym (c .before .before .judge-last .ensures) ∙ ap verdictOf (c .enum-told2 .given .1) in
     (figure-answer _ _ (figureOf r ps) n (c .before .before .before .figure .ensures), figure-record _ r r r n refl)
 
 pub quarter-spec : {M : Type 1} → statement M
 quarter-spec =
     tie.close
     (tie.spec
-    admit-requires
+    judge-call-requires
     enum-known-entry
     enum-told
     figure-requires
-    late-requires
+    judge-last-requires
     enum-known-last
     enum-told-2
     returns

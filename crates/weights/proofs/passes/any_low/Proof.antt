@@ -1,7 +1,7 @@
 -- `any_low`: the test of what is left is the test of the whole, until a unit fails it.
 use mathlib.Core.Path.{_≡_, refl, sym, _∙_}
-use Prim.Native.Nat.{_+_, _-_, _≤_, _<_}
-use lib.ListN.{length, getD, drop}
+use Prim.Native.Nat.{_-_, _≤_}
+use lib.ListN.{length, drop}
 use Rattle.rules.specs.Lists.{anyPair}
 use Rattle.rules.specs.Chain.{badWeight}
 use Rattle.weights.proofs.Lists.{pair-found, pair-next, pair-none}

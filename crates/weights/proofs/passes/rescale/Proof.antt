@@ -2,10 +2,9 @@
 use mathlib.Core.List.{List}
 use native.Mathlib.Omega.{arith}
 use mathlib.Core.Path.{_≡_, refl, sym, ap, _∙_}
-use Prim.Native.Nat.{ℕ, _+_, _*_, _/_, _-_, _≤_, _<_}
+use Prim.Native.Nat.{ℕ, _-_, _≤_, _<_}
 use native.Mathlib.Numerals.{add-one}
-use lib.ListN.{length, getD, take, drop, set, length-set}
-use Rattle.rules.specs.Lists.{sum, products, scaled}
+use lib.ListN.{length, getD, length-set}
 use Rattle.weights.proofs.Lists.{product-le, scaledTo, scaledTo-none, scaledTo-at, scaledTo-step, scaledTo-all}
 use Rattle.weights.proofs.passes.rescale.Statement.{statement}
 use Rattle.weights.proofs.passes.rescale.Tie as tie
@@ -19,33 +18,33 @@ abbrev μ-loop : tie.MeasureT-loop
 loop-holds : tie.Need-loop-holds Inv-loop μ-loop
 loop-holds c = (omega arith, refl, sym (scaledTo-none (c .args .scale) (c .args .v .now) (c .args .p .now)))
 
-mul-v : tie.Need-mul-v Inv-loop μ-loop
-mul-v c = omega arith
+mul-x : tie.Need-mul-x Inv-loop μ-loop
+mul-x c = omega arith
 
-slice-read-v : tie.Need-slice-read-v Inv-loop μ-loop
-slice-read-v c = omega arith
+slice-read-x : tie.Need-slice-read-x Inv-loop μ-loop
+slice-read-x c = omega arith
 
-mul-v-2 : tie.Need-mul-v-2 Inv-loop μ-loop
-mul-v-2 c = omega arith
+mul-moved : tie.Need-mul-moved Inv-loop μ-loop
+mul-moved c = omega arith
 
-shared-slice-read-v : tie.Need-shared-slice-read-v Inv-loop μ-loop
-shared-slice-read-v c = omega arith
+shared-slice-read-moved : tie.Need-shared-slice-read-moved Inv-loop μ-loop
+shared-slice-read-moved c = omega arith
 
-cast-v : tie.Need-cast-v Inv-loop μ-loop
-cast-v c = omega (arith, c .shared-slice-known .given (c .before .before .before .loop .i))
+cast-moved : tie.Need-cast-moved Inv-loop μ-loop
+cast-moved c = omega (arith, c .shared-slice-known .given (c .before .before .before .loop .i))
 
-mul-v-3 : tie.Need-mul-v-3 Inv-loop μ-loop
-mul-v-3 c =
+mul-moved-2 : tie.Need-mul-moved-2 Inv-loop μ-loop
+mul-moved-2 c =
     let l = c .before .before .before in
     let a = l .before .args in
     let e = ap (λ (x : List ℕ). getD x (l .loop .i) 0) (l .loop .inv .2) ∙ scaledTo-at (a .scale) (l .loop .i) (a .v .now) (a .p .now) (l .before .pre .0) in
     rw e (omega (arith, product-le (a .v .now) (a .p .now) (l .loop .i)))
 
-div-v : tie.Need-div-v Inv-loop μ-loop
-div-v c = omega arith
+div-moved : tie.Need-div-moved Inv-loop μ-loop
+div-moved c = omega arith
 
-mul-v-4 : tie.Need-mul-v-4 Inv-loop μ-loop
-mul-v-4 c = omega arith
+mul-v : tie.Need-mul-v Inv-loop μ-loop
+mul-v c = omega arith
 
 slice-write-v : tie.Need-slice-write-v Inv-loop μ-loop
 slice-write-v c = omega arith
@@ -62,10 +61,11 @@ loop-again c =
     let a = l .before .args in
     let i = l .loop .i in
     let e = ap (λ (x : List ℕ). getD x i 0) (l .loop .inv .2) ∙ scaledTo-at (a .scale) i (a .v .now) (a .p .now) (l .before .pre .0) in
-    let h : i < length (a .v .now) = omega arith in
-    (omega arith,
-    simp length-set (l .loop .inv .1),
-    rw (e, l .loop .inv .2, add-one) (scaledTo-step (a .scale) i (a .v .now) (a .p .now) h (l .before .pre .0)))
+    let h : i < length (a .v .now) = omega arith in (
+      omega arith,
+      simp length-set (l .loop .inv .1),
+      rw (e, l .loop .inv .2, add-one) (scaledTo-step (a .scale) i (a .v .now) (a .p .now) h (l .before .pre .0)),
+    )
 
 same-length : tie.Need-same-length Inv-loop μ-loop
 same-length c = c .before .loop .inv .1
@@ -83,14 +83,14 @@ rescale-spec =
     Inv-loop
     μ-loop
     loop-holds
+    mul-x
+    slice-read-x
+    mul-moved
+    shared-slice-read-moved
+    cast-moved
+    mul-moved-2
+    div-moved
     mul-v
-    slice-read-v
-    mul-v-2
-    shared-slice-read-v
-    cast-v
-    mul-v-3
-    div-v
-    mul-v-4
     slice-write-v
     add-i
     loop-less

@@ -1,10 +1,9 @@
 -- `weighted_sums`: what is added up and what is left make the whole sums, which fit.
 use native.Mathlib.Omega.{arith}
-use mathlib.Core.Path.{_≡_, refl, ap₂}
-use Prim.Native.Nat.{ℕ, _+_, _*_, _-_, _≤_, _<_}
-use lib.ListN.{length, getD, drop}
+use mathlib.Core.Path.{_≡_}
+use Prim.Native.Nat.{_+_, _-_, _≤_, _<_}
+use lib.ListN.{length, drop}
 use Rattle.rules.specs.Lists.{sum, products}
-use Rattle.weights.specs.declared.passes.Sums.{Sums}
 use Rattle.weights.proofs.Lists.{sum-step, sum-end, products-step, products-end}
 use Rattle.weights.proofs.passes.weighted_sums.Statement.{statement}
 use Rattle.weights.proofs.passes.weighted_sums.Tie as tie

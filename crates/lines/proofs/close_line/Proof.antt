@@ -1,0 +1,23 @@
+-- A line laid at the front, where the buffer has room for the longest.
+use borrow.Author.Needs.{needs}
+use Rattle.lines.proofs.Digits.{line-fits}
+use Rattle.lines.proofs.Laying.{at-front, no-room}
+use Rattle.lines.specs.Laid.{lineRoom}
+use Rattle.rules.specs.Lines.{closeLine}
+use Rattle.lines.proofs.close_line.Statement.{statement}
+use Rattle.lines.proofs.close_line.Tie as tie
+
+returns : tie.Need-returns
+returns c = no-room lineRoom (closeLine (c .before .before .args .figure)) (c .before .before .args .out .now) (c .if1 .taken)
+
+put-line-requires : tie.Need-put-line-requires
+put-line-requires c κs = line-fits _ _ _ _ (c .before .if1 .left)
+
+same-length : tie.Need-same-length
+same-length c = search needs
+
+returns-2 : tie.Need-returns-2
+returns-2 c = at-front lineRoom (closeLine (c .before .before .before .before .before .before .args .figure)) (c .before .before .before .before .before .before .args .out .now) (c .before .before .before .before .if1 .left) (c .before .before .put-line .ensures)
+
+pub close-line-spec : {M : Type 1} → statement M
+close-line-spec = tie.close (tie.spec returns put-line-requires same-length returns-2)

@@ -1,0 +1,129 @@
+// Document 01, "Job stream": the lines that `chainrun` prints, laid in decimal at the front of a lent buffer, so that each command's
+// lines are written out at once. Each function answers the bytes that it laid; a buffer without the room named stays as it is.
+ghost use mathlib.Core.Path.{_≡_};
+ghost use mathlib.Core.List.{_∷_, []};
+ghost use Prim.Native.Nat.{_+_, _*_, _<_, _≤_, min};
+ghost use lib.ListN.{length};
+ghost use Rattle.rules.specs.Lines.{lineOf, lineOf2, panelLines, quarterLine, closeLine, refusalLine};
+ghost use Rattle.lines.specs.Laid.{digitsOf, Put, lineRoom, laid, laidCount};
+
+// Bytes of the longest line.
+pub const LINE_ROOM: usize = 44;
+
+// Bytes that the lines of the largest panel need at most.
+pub const PANEL_ROOM: usize = 4400;
+
+// Lays b at the place at, and answers the place after it.
+fn put_byte(out: &mut [u8], at: usize, b: u8) -> usize
+    requires { ⌜ at + 1 ≤ length (now out) ⌝ }
+    ensures { λ r. ⌜ Put at (b ∷ []) (now (out .entry)) (now (out .exit)) r ⌝ }
+{
+    out[at] = b;
+    at + 1
+}
+
+// Lays the digits of n from the place at on, and answers the place after them.
+fn put_decimal(out: &mut [u8], at: usize, n: u64) -> usize
+    requires { ⌜ at + length (digitsOf n) ≤ length (now out) ⌝ }
+    ensures { λ r. ⌜ Put at (digitsOf n) (now (out .entry)) (now (out .exit)) r ⌝ }
+{
+    if n < 10 {
+        return put_byte(out, at, 48 + n as u8);
+    }
+    let last = put_decimal(out, at, n / 10);
+    put_byte(out, last, 48 + (n % 10) as u8)
+}
+
+// Lays a line of a letter and a number from the place at on.
+fn put_line(out: &mut [u8], at: usize, letter: u8, a: u64) -> usize
+    requires { ⌜ at + length (lineOf letter a) ≤ length (now out) ⌝ }
+    ensures { λ r. ⌜ Put at (lineOf letter a) (now (out .entry)) (now (out .exit)) r ⌝ }
+{
+    let space = put_byte(out, at, letter);
+    let number = put_byte(out, space, b' ');
+    let end = put_decimal(out, number, a);
+    put_byte(out, end, b'\n')
+}
+
+// Lays a line of a letter and two numbers from the place at on.
+fn put_line2(out: &mut [u8], at: usize, letter: u8, a: u64, b: u64) -> usize
+    requires { ⌜ at + length (lineOf2 letter a b) ≤ length (now out) ⌝ }
+    ensures { λ r. ⌜ Put at (lineOf2 letter a b) (now (out .entry)) (now (out .exit)) r ⌝ }
+{
+    let space = put_byte(out, at, letter);
+    let first = put_byte(out, space, b' ');
+    let between = put_decimal(out, first, a);
+    let second = put_byte(out, between, b' ');
+    let after = put_decimal(out, second, b);
+    put_byte(out, after, b'\n')
+}
+
+// `Q F`.
+pub fn quarter_line(out: &mut [u8], figure: u64) -> usize
+    ensures { λ r. ⌜ (r ≡ laidCount lineRoom (quarterLine figure) (now (out .entry))) × (now (out .exit) ≡ laid lineRoom (quarterLine figure) (now (out .entry))) ⌝ }
+{
+    if out.len() < LINE_ROOM {
+        return 0;
+    }
+    put_line(out, 0, b'Q', figure)
+}
+
+// `C F`.
+pub fn close_line(out: &mut [u8], figure: u64) -> usize
+    ensures { λ r. ⌜ (r ≡ laidCount lineRoom (closeLine figure) (now (out .entry))) × (now (out .exit) ≡ laid lineRoom (closeLine figure) (now (out .entry))) ⌝ }
+{
+    if out.len() < LINE_ROOM {
+        return 0;
+    }
+    put_line(out, 0, b'C', figure)
+}
+
+// `R number offset`.
+pub fn refusal_line(out: &mut [u8], number: u8, offset: usize) -> usize
+    ensures { λ r. ⌜ (r ≡ laidCount lineRoom (refusalLine number offset) (now (out .entry))) × (now (out .exit) ≡ laid lineRoom (refusalLine number offset) (now (out .entry))) ⌝ }
+{
+    if out.len() < LINE_ROOM {
+        return 0;
+    }
+    put_line2(out, 0, b'R', number as u64, offset as u64)
+}
+
+fn wide(x: u32) -> u64
+    ensures { λ r. ⌜ r ≡ x ⌝ }
+{
+    x as u64
+}
+
+fn shorter(a: usize, b: usize) -> usize
+    ensures { λ r. ⌜ r ≡ min a b ⌝ }
+{
+    if a < b { a } else { b }
+}
+
+// Lays the lines of a panel at the front.
+fn put_panel(out: &mut [u8], numbers: &[u32], weights: &[u64]) -> usize
+    requires { ⌜ lineRoom * length (now numbers) ≤ length (now out) ⌝ }
+    ensures { λ r. ⌜ Put 0 (panelLines (now (numbers .entry)) (now (weights .entry))) (now (out .entry)) (now (out .exit)) r ⌝ }
+{
+    let n = shorter(numbers.len(), weights.len());
+    let mut at: usize = 0;
+    let mut i: usize = 0;
+    while i < n {
+        let number = wide(numbers[i]);
+        let weight = weights[i];
+        at = put_line2(out, at, b'P', number, weight);
+        i += 1;
+    }
+    at
+}
+
+// `P number weight` for each panel unit.
+pub fn panel_lines(out: &mut [u8], numbers: &[u32], weights: &[u64]) -> usize
+    ensures { λ r. ⌜ (r ≡ laidCount (lineRoom * length (now (numbers .entry))) (panelLines (now (numbers .entry)) (now (weights .entry))) (now (out .entry)))
+        × (now (out .exit) ≡ laid (lineRoom * length (now (numbers .entry))) (panelLines (now (numbers .entry)) (now (weights .entry))) (now (out .entry))) ⌝ }
+{
+    if out.len() / LINE_ROOM < numbers.len() {
+        return 0;
+    }
+    put_panel(out, numbers, weights)
+}

@@ -1,0 +1,166 @@
+// Document 01, "Job stream": the command at the front of a part of the stream, and the part after it; refusals 15, 16 and 17.
+// Places (18) are judged by the job, which knows the panel.
+ghost use mathlib.Core.Path.{_≡_};
+ghost use Prim.Native.Nat.{_+_, _<_, _≤_};
+ghost use lib.ListN.{length};
+ghost use Rattle.rules.specs.Stream.{bigEndian, widthOf, commandOf, reading, restOf};
+ghost use Rattle.stream.specs.Value.{commandFrom, readingFrom, takenOf};
+use refusals::Refusal;
+
+// Bytes of the longest stream.
+pub const MOST_STREAM: usize = 32768;
+
+pub enum Command {
+    Unit {
+        number: u32,
+        turnover: u64,
+        random: u32,
+    },
+    Draw {
+        size: u8,
+        start: u32,
+    },
+    Share {
+        place: u8,
+        share: u16,
+    },
+    Relative {
+        place: u8,
+        relative: u32,
+    },
+    Open {
+        start: u64,
+    },
+    Quarter,
+    Close,
+}
+
+// What stands at the front of a part of the stream.
+pub enum Reading {
+    Found(Command),
+    Ended,
+    Refused(Refusal),
+}
+
+fn wide(x: u8) -> u16
+    ensures { λ r. ⌜ (r ≡ x) × (r < 256) ⌝ }
+{
+    x as u16
+}
+
+// The two bytes from i on, the first the highest.
+fn two_bytes(s: &[u8], i: usize) -> u16
+    requires { ⌜ i + 1 < length (now s) ⌝ }
+    ensures { λ r. ⌜ r ≡ bigEndian 2 (now (s .entry)) i ⌝ }
+{
+    let high = wide(s[i]);
+    let low = wide(s[i + 1]);
+    high * 256 + low
+}
+
+// The word of four bytes from i on.
+pub fn word(s: &[u8], i: usize) -> u32
+    requires { ⌜ i + 3 < length (now s) ⌝ }
+    ensures { λ r. ⌜ r ≡ bigEndian 4 (now (s .entry)) i ⌝ }
+{
+    let high = two_bytes(s, i);
+    let low = two_bytes(s, i + 2);
+    (high as u32) * 65536 + (low as u32)
+}
+
+// The eight bytes from i on: two words, the upper first.
+fn two_words(s: &[u8], i: usize) -> u64
+    requires { ⌜ i + 7 < length (now s) ⌝ }
+    ensures { λ r. ⌜ r ≡ bigEndian 8 (now (s .entry)) i ⌝ }
+{
+    let high = word(s, i);
+    let low = word(s, i + 4);
+    (high as u64) * 4294967296 + (low as u64)
+}
+
+// The bytes of a command, its command byte k among them.
+fn width(k: u8) -> usize
+    ensures { λ r. ⌜ r ≡ widthOf k ⌝ }
+{
+    match k {
+        1 => 17,
+        2 => 6,
+        3 => 4,
+        4 => 6,
+        5 => 9,
+        _ => 1,
+    }
+}
+
+// The command with the command byte k, its operands after it in s.
+fn operands(s: &[u8], k: u8) -> Command
+    requires { ⌜ widthOf k ≤ length (now s) ⌝ }
+    ensures { λ r. ⌜ commandFrom r ≡ commandOf k (now (s .entry)) ⌝ }
+{
+    match k {
+        1 => Command::Unit {
+            number: word(s, 1),
+            turnover: two_words(s, 5),
+            random: word(s, 13),
+        },
+        2 => Command::Draw {
+            size: s[1],
+            start: word(s, 2),
+        },
+        3 => Command::Share {
+            place: s[1],
+            share: two_bytes(s, 2),
+        },
+        4 => Command::Relative {
+            place: s[1],
+            relative: word(s, 2),
+        },
+        5 => Command::Open {
+            start: two_words(s, 1),
+        },
+        6 => Command::Quarter,
+        _ => Command::Close,
+    }
+}
+
+// The command at the front of s, the end, or a refusal.
+pub fn read(s: &[u8]) -> Reading
+    ensures { λ r. ⌜ readingFrom r ≡ reading (now (s .entry)) ⌝ }
+{
+    if MOST_STREAM < s.len() {
+        return Reading::Refused(Refusal::StreamLength);
+    }
+    if s.len() == 0 {
+        return Reading::Ended;
+    }
+    let k = s[0];
+    if k < 1 {
+        return Reading::Refused(Refusal::UnknownCommand);
+    }
+    if 7 < k {
+        return Reading::Refused(Refusal::UnknownCommand);
+    }
+    if s.len() < width(k) {
+        return Reading::Refused(Refusal::CutShort);
+    }
+    Reading::Found(operands(s, k))
+}
+
+// The bytes that `read` takes from the front of s.
+fn taken(s: &[u8]) -> usize
+    ensures { λ r. ⌜ r ≡ takenOf (now (s .entry)) ⌝ }
+{
+    match read(s) {
+        Reading::Found(_) => width(s[0]),
+        Reading::Ended => 0,
+        Reading::Refused(_) => 0,
+    }
+}
+
+// The unread part of s: what follows its first command, all of s where none was read.
+pub fn rest(s: &[u8]) -> &[u8]
+    ensures { λ r. ⌜ now r ≡ restOf (now (s .entry)) ⌝ }
+{
+    let n = taken(s);
+    &s[n..]
+}

@@ -1,0 +1,94 @@
+-- `bad_values`: the shares so far and those left make the whole sum, which 64 numbers of 32 bits keep small, and no index so far was out of range.
+use native.Mathlib.Omega.{arith}
+use borrow.Author.Needs.{needs}
+use mathlib.Core.Path.{_≡_, refl, sym, ap, _∙_}
+use mathlib.Core.Bool.{not}
+use Prim.Native.Nat.{ℕ, _+_, _*_, _-_, _≤_, _^_}
+use lib.Dec.{eqb}
+use lib.ListN.{length, drop}
+use Rattle.rules.specs.Limits.{sectorScale}
+use Rattle.rules.specs.Lists.{sum, anyOf}
+use Rattle.rules.specs.Chain.{badIndex}
+use Rattle.weights.proofs.Tests.{or-second, or-none}
+use Rattle.weights.proofs.Lists.{sum-step, sum-end, one-found, one-next, one-none}
+use Rattle.total.proofs.bad_values.Statement.{statement}
+use Rattle.total.proofs.bad_values.Tie as tie
+
+abbrev Inv-loop : tie.InvT-loop
+Inv-loop shares indices added₀ i₀ added i = (i ≤ length shares) × (added ≤ 2 ^ 32 * i) × (added + sum (drop i shares) ≡ sum shares) × (anyOf badIndex (drop i indices) ≡ anyOf badIndex indices)
+
+abbrev μ-loop : tie.MeasureT-loop
+μ-loop shares indices added₀ i₀ added i = length shares - i
+
+loop-holds : tie.Need-loop-holds Inv-loop μ-loop
+loop-holds c = (omega arith, omega arith, omega arith, refl)
+
+mul-bad-index : tie.Need-mul-bad-index Inv-loop μ-loop
+mul-bad-index c = omega arith
+
+shared-slice-read-bad-index : tie.Need-shared-slice-read-bad-index Inv-loop μ-loop
+shared-slice-read-bad-index c = omega arith
+
+bad-index-requires : tie.Need-bad-index-requires Inv-loop μ-loop
+bad-index-requires c κs = search needs
+
+returns : tie.Need-returns Inv-loop μ-loop
+returns c =
+    let a = c .before .before .before .before .before .before .before .args in
+    let l = c .before .before .before .before .loop in
+    sym (or-second _ _ (sym (one-found badIndex (a .indices .now) (l .i) _ (l .inv .3) (omega arith) (sym (c .before .bad-index .ensures) ∙ c .if1 .taken))))
+
+mul-added : tie.Need-mul-added Inv-loop μ-loop
+mul-added c = omega arith
+
+shared-slice-read-added : tie.Need-shared-slice-read-added Inv-loop μ-loop
+shared-slice-read-added c = omega arith
+
+cast-added : tie.Need-cast-added Inv-loop μ-loop
+cast-added c = omega (arith, c .shared-slice-known4 .given (c .before .before .before .before .before .loop .i))
+
+add-added : tie.Need-add-added Inv-loop μ-loop
+add-added c = omega (arith, c .shared-slice-known4 .given (c .before .before .before .before .before .loop .i))
+
+add-i : tie.Need-add-i Inv-loop μ-loop
+add-i c = omega arith
+
+loop-less : tie.Need-loop-less Inv-loop μ-loop
+loop-less c = omega arith
+
+loop-again : tie.Need-loop-again Inv-loop μ-loop
+loop-again c =
+    let a = c .before .before .before .before .before .before .before .before .args in
+    let l = c .before .before .before .before .before .loop in
+    let x = c .shared-slice-known4 .given (l .i) in
+    let s = sum-step (a .shares .now) (l .i) (c .before .before .before .before .loop-test .taken) in
+    let e = one-next badIndex (a .indices .now) (l .i) _ (l .inv .3) (omega arith) (sym (c .before .before .bad-index .ensures) ∙ c .before .if1 .left) in
+    (omega arith, omega arith, omega arith, e)
+
+returns-2 : tie.Need-returns-2 Inv-loop μ-loop
+returns-2 c =
+    let a = c .before .before .before .before .args in
+    let l = c .before .loop in
+    let h : l .added ≡ sum (a .shares .now) = omega (arith, sum-end (a .shares .now) (l .i) (c .loop-test .left)) in
+    let none = sym (one-none badIndex (a .indices .now) (l .i) _ (l .inv .3) (omega arith)) in
+    ap (λ (x : ℕ). not (eqb x sectorScale)) h ∙ sym (or-none _ _ none)
+
+pub bad-values-spec : {M : Type 1} → statement M
+bad-values-spec =
+    tie.close
+    (tie.spec
+    Inv-loop
+    μ-loop
+    loop-holds
+    mul-bad-index
+    shared-slice-read-bad-index
+    bad-index-requires
+    returns
+    mul-added
+    shared-slice-read-added
+    cast-added
+    add-added
+    add-i
+    loop-less
+    loop-again
+    returns-2)

@@ -1,0 +1,62 @@
+-- `vougecress_close`: a short list is 19 and stays; else the record that the list holds is closed and laid back.
+use mathlib.Core.Path.{_≡_, refl, sym, ap, _∙_}
+use borrow.Author.Tests.{lt-ltb, le-ltb}
+use Prim.Native.Nat.{ℕ}
+use mathlib.Core.List.{List, _++_}
+use lib.ListN.{length, drop}
+use lib.Dec.{ltb}
+use Rattle.rules.specs.Chain.{Chain, Call, Answer, answerOf, after}
+use Rattle.chain.specs.Record.{recordOf, answerFrom}
+use Rattle.vougecress.specs.Answers.{figureFrom}
+use Rattle.vougecress.specs.Record.{recordPlaces, recordIn, recordList, listAnswer, listAfter}
+use borrow.Author.Needs.{needs}
+use Rattle.vougecress.proofs.vougecress_close.Statement.{statement}
+use Rattle.vougecress.proofs.vougecress_close.Tie as tie
+
+returns : tie.Need-returns
+unfolding listAnswer listAfter
+returns c =
+    let short = lt-ltb (length (c .before .before .before .args .lent .now)) recordPlaces (c .if1 .taken) in
+    (rw short, rw short)
+
+load-requires : tie.Need-load-requires
+load-requires c κs = search needs
+
+close-requires : tie.Need-close-requires
+close-requires c κs = search needs
+
+store-requires : tie.Need-store-requires
+store-requires c κs = search needs
+
+figure-of-requires : tie.Need-figure-of-requires
+figure-of-requires c κs = search needs
+
+same-length : tie.Need-same-length
+same-length c = search needs
+
+returns-2 : tie.Need-returns-2
+unfolding listAnswer listAfter
+returns-2 c =
+    let s = c .before .before .before in
+    let k = s .before .before .before in
+    let l = k .before in
+    let a = l .before .before .before .before .before .args in
+    let call = Call.close (a .relatives .now) in
+    let long = le-ltb (length (a .lent .now)) recordPlaces (l .before .before .if1 .left) in
+    let told = k .close .ensures .0 ∙ ap (λ (r : Chain). answerOf r call) (l .load .ensures) in
+    let next = k .close .ensures .1 ∙ ap (λ (r : Chain). after r call) (l .load .ensures) in (
+      rw long (c .figure-of .ensures ∙ ap figureFrom told),
+      rw long (s .store .ensures ∙ ap (λ (r : Chain). recordList r ++ drop recordPlaces (a .lent .now)) next),
+    )
+
+pub vougecress-close-spec : {M : Type 1} → statement M
+vougecress-close-spec =
+    tie.close
+    (tie.spec
+    returns
+    load-requires
+    close-requires
+    store-requires
+    figure-of-requires
+    same-length
+    returns-2)

@@ -1,0 +1,77 @@
+-- `vougecress_open`: a short list is 6; else the inner open's answer, and its record laid over the list where it is accepted.
+use mathlib.Core.Path.{_≡_, sym, ap, _∙_}
+use borrow.Author.Tests.{lt-ltb, le-ltb}
+use lib.ListN.{length}
+use Rattle.refusals.specs.Number.{numberOf}
+use Rattle.rules.specs.Chain.{openRefusal, openRecord, openAnswer}
+use Rattle.chain.specs.Record.{recordOf}
+use Rattle.opening.specs.Opened.{openingBy}
+use Rattle.opening.specs.declared.Opening.{Opening}
+use Rattle.vougecress.specs.Record.{recordPlaces, openedNumber, openedList}
+use Rattle.vougecress.proofs.Places.{refused-laid, opened-laid}
+use borrow.Author.Needs.{needs}
+use Rattle.vougecress.proofs.vougecress_open.Statement.{statement}
+use Rattle.vougecress.proofs.vougecress_open.Tie as tie
+
+returns : tie.Need-returns
+unfolding openedNumber openedList openAnswer
+returns c =
+    let short = lt-ltb (length (c .before .before .before .before .before .args .lent .now)) recordPlaces (c .if1 .taken) in
+    (rw short, rw short)
+
+open-requires : tie.Need-open-requires
+open-requires c κs = search needs
+
+enum-known-answer : tie.Need-enum-known-answer
+enum-known-answer c = search needs
+
+number-requires : tie.Need-number-requires
+number-requires c κs = search needs
+
+cast-result : tie.Need-cast-result
+cast-result c = search needs
+
+enum-told : tie.Need-enum-told
+enum-told c = search needs
+
+store-requires : tie.Need-store-requires
+store-requires c κs = search needs
+
+returns-2 : tie.Need-returns-2
+unfolding openedNumber openedList openAnswer
+returns-2 c =
+    let o = c .before .before .before .before in
+    let a = o .before .before .before .before .before .before .args in
+    let long = le-ltb (length (a .lent .now)) recordPlaces (o .before .if1 .left) in
+    let told = sym (ap (λ (x : Opening). openingBy x (recordOf (o .«open» .result .chain))) (c .before .before .answer .given .1)) ∙ o .«open» .ensures .0 in
+    let laid = refused-laid (openRefusal (a .weights .now) (a .shares .now) (a .relatives .now) (a .start)) (numberOf (c .before .before .answer .given .0 .0)) (openRecord (a .weights .now) (a .shares .now) (a .relatives .now) (a .start)) (a .lent .now) told in
+    (rw long (c .number .ensures ∙ laid .0), rw long (laid .1))
+
+same-length : tie.Need-same-length
+same-length c = search needs
+
+returns-3 : tie.Need-returns-3
+unfolding openedNumber openedList openAnswer
+returns-3 c =
+    let s = c .before .before in
+    let o = s .before .before .before .before .before in
+    let a = o .before .before .before .before .before .before .args in
+    let long = le-ltb (length (a .lent .now)) recordPlaces (o .before .if1 .left) in
+    let told = sym (ap (λ (x : Opening). openingBy x (recordOf (o .«open» .result .chain))) (s .before .before .before .enum-told .given .1)) ∙ o .«open» .ensures .0 in
+    let laid = opened-laid (openRefusal (a .weights .now) (a .shares .now) (a .relatives .now) (a .start)) (recordOf (o .«open» .result .chain)) (openRecord (a .weights .now) (a .shares .now) (a .relatives .now) (a .start)) (a .lent .now) told in
+    (rw long (laid .0), rw long (s .store .ensures ∙ laid .1))
+
+pub vougecress-open-spec : {M : Type 1} → statement M
+vougecress-open-spec =
+    tie.close
+    (tie.spec
+    returns
+    open-requires
+    enum-known-answer
+    number-requires
+    cast-result
+    enum-told
+    store-requires
+    returns-2
+    same-length
+    returns-3)

@@ -1,0 +1,40 @@
+-- `vougecress_quarter`: a short list is 19; else the record that the list holds is asked.
+use mathlib.Core.Path.{_≡_, refl, sym, ap, _∙_}
+use borrow.Author.Tests.{lt-ltb, le-ltb}
+use Prim.Native.Nat.{ℕ}
+use mathlib.Core.List.{List, _++_}
+use lib.ListN.{length, drop}
+use lib.Dec.{ltb}
+use Rattle.rules.specs.Chain.{Chain, Call, Answer, answerOf, after}
+use Rattle.chain.specs.Record.{recordOf, answerFrom}
+use Rattle.vougecress.specs.Answers.{figureFrom}
+use Rattle.vougecress.specs.Record.{recordPlaces, recordIn, recordList, listAnswer, listAfter}
+use borrow.Author.Needs.{needs}
+use Rattle.vougecress.proofs.vougecress_quarter.Statement.{statement}
+use Rattle.vougecress.proofs.vougecress_quarter.Tie as tie
+
+returns : tie.Need-returns
+unfolding listAnswer
+returns c = rw (lt-ltb (length (c .before .before .before .args .lent .now)) recordPlaces (c .if1 .taken))
+
+load-requires : tie.Need-load-requires
+load-requires c κs = search needs
+
+quarter-requires : tie.Need-quarter-requires
+quarter-requires c κs = search needs
+
+figure-of-requires : tie.Need-figure-of-requires
+figure-of-requires c κs = search needs
+
+returns-2 : tie.Need-returns-2
+unfolding listAnswer
+returns-2 c =
+    let l = c .before .before in
+    let a = l .before .before .before .before .args in
+    let call = Call.quarter (a .relatives .now) in
+    let told = c .before .quarter .ensures .0 ∙ ap (λ (r : Chain). answerOf r call) (l .load .ensures) in
+    rw (le-ltb (length (a .lent .now)) recordPlaces (l .before .if1 .left)) (c .figure-of .ensures ∙ ap figureFrom told)
+
+pub vougecress-quarter-spec : {M : Type 1} → statement M
+vougecress-quarter-spec =
+    tie.close (tie.spec returns load-requires quarter-requires figure-of-requires returns-2)
