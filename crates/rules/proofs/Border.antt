@@ -1,10 +1,11 @@
--- What the bound of demand 3 and the leavers' buffer allow and what they do not, shown at the border by examples: these two are
--- relations, which the tests cannot compute as they compute the other definitions.
+-- What demand 3 and the leavers' buffer ask and allow, shown at the border by examples: these are relations, which the tests cannot
+-- compute as they compute the other definitions.
 use mathlib.Core.Path.{_≡_, refl}
-use Prim.Native.Nat.{ℕ}
+use Prim.Native.Nat.{ℕ, suc}
 use mathlib.Core.List.{List, [], _∷_}
 use native.Mathlib.Omega.{arith}
-use Rattle.rules.specs.Direct.{Within}
+use Rattle.rules.specs.Chain.{Call, Answer}
+use Rattle.rules.specs.Direct.{Direct, Within, AllWithin, directAfter, numerator, denominator}
 use Rattle.rules.specs.Rotation.{Holds, times}
 
 -- with D = 10,000,000 the first call may be off by 22, the second by 33
@@ -32,6 +33,23 @@ same-ratio = record { defined = omega arith; notAbove = omega arith; notBelow = 
 
 pub undefined-outside : Within 0 0 0 1 → ⊥
 undefined-outside w = omega (arith, w .defined)
+
+-- "A refused call has no D and changes nothing": the call after it is judged by the same weights and the same m
+pub refused-passed :
+    (d : Direct) (n f : ℕ) (ps qs : List ℕ) →
+    AllWithin d (Call.close ps ∷ Call.quarter qs ∷ []) (Answer.refused n ∷ Answer.figure f ∷ []) → Within f (numerator d qs) (denominator d) (d .m)
+refused-passed d n f ps qs all = all .0
+
+-- a close "takes m as it stands", and the call after it the moved weights and one more
+pub close-counted :
+    (d : Direct) (f h : ℕ) (ps qs : List ℕ) →
+    AllWithin d (Call.close ps ∷ Call.quarter qs ∷ []) (Answer.figure f ∷ Answer.figure h ∷ []) →
+    Within f (numerator d ps) (denominator d) (d .m) × Within h (numerator (directAfter d (Call.close ps)) qs) (denominator (directAfter d (Call.close ps))) (suc (d .m))
+close-counted d f h ps qs all = (all .0, all .1 .0)
+
+-- there is an answer to each call
+pub unanswered-outside : (d : Direct) (ps : List ℕ) → AllWithin d (Call.quarter ps ∷ []) [] → ⊥
+unanswered-outside d ps all = all
 
 -- two leavers in the other order, and the place beyond them as it was
 pub exchanged : Holds (13 ∷ 15 ∷ []) (1 ∷ 2 ∷ 3 ∷ []) (15 ∷ 13 ∷ 3 ∷ [])
