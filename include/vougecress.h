@@ -55,6 +55,41 @@ struct vougecress_figure vougecress_quarter(const uint64_t *record, size_t recor
 struct vougecress_figure vougecress_close(uint64_t *record, size_t record_count,
                                           const uint32_t *relatives, size_t relatives_count);
 
+/* ---- Frame ("Frame and weights", "Draw")
+ *
+ * A frame is three lists of equal length: unit numbers (rising), turnovers in euros and random numbers (0 to 999,999).
+ */
+struct vougecress_taken {
+    uint32_t refusal;
+    uint64_t q;    /* units of the take-all group */
+    uint64_t n;    /* units to sample */
+    uint64_t rest; /* X, the rest turnover; 0 under cut-off */
+};
+
+struct vougecress_drawn {
+    uint32_t refusal;
+    uint64_t n;
+    uint64_t rest;
+};
+
+/*
+ * The take-all group of a frame for a panel of z units. Writes a mark for each unit, 1 in the group and 0 outside, into the
+ * first turnovers_count places of `marks`. Refusals 1, 3, 5, 6 (marks shorter than the turnovers).
+ */
+struct vougecress_taken vougecress_take_all(const uint64_t *turnovers, size_t turnovers_count, size_t z,
+                                            uint8_t *marks, size_t marks_count);
+
+/*
+ * Draws a panel of z units under a start (0 to 999,999). Writes the unit numbers, in rising order, into the first z places
+ * of `panel` and their base weights W into the first z places of `weights`. Refusals 1 to 6.
+ */
+struct vougecress_drawn vougecress_draw(const uint32_t *numbers, size_t numbers_count,
+                                        const uint64_t *turnovers, size_t turnovers_count,
+                                        const uint32_t *randoms, size_t randoms_count,
+                                        size_t z, uint32_t start,
+                                        uint32_t *panel, size_t panel_count,
+                                        uint64_t *weights, size_t weights_count);
+
 /* ---- Total ("Total"): shares in millionths that add to 1,000,000, and an index a sector. Refusal 14. */
 struct vougecress_figure vougecress_total(const uint32_t *shares, size_t shares_count,
                                           const uint64_t *indices, size_t indices_count);

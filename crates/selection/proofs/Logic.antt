@@ -52,6 +52,11 @@ pub or-on : (a b : Bool) → a ≡ true → (a or b) ≡ true
 unfolding _or_
 or-on a b h = rw h
 
+pub or-second : (a b : Bool) → b ≡ true → (a or b) ≡ true
+unfolding _or_
+or-second true b h = refl
+or-second false b h = h
+
 pub or-off : (a b : Bool) → a ≡ false → (a or b) ≡ b
 unfolding _or_
 or-off a b h = rw h

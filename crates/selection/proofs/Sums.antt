@@ -131,6 +131,14 @@ pub count-grows : (p : ℕ → Bool) (i n : ℕ) → i ≤ n → count p i ≤ c
 unfolding count
 count-grows p i n l = sum-grows p (λ k. 1) i n l
 
+-- where no more are counted, none is marked
+pub count-rest : (p : ℕ → Bool) (i n : ℕ) → count p i ≡ count p n → (k : ℕ) → i ≤ k → k < n → p k ≡ false
+count-rest p i n e k l h = go (p k) refl
+  where
+    go : (b : Bool) → p k ≡ b → p k ≡ false
+    go true q = absurd (omega (arith, count-yes p k q, count-grows p i k l, count-grows p (k + 1) n (omega arith)))
+    go false q = q
+
 -- the marked and the unmarked are all
 pub count-both : (p : ℕ → Bool) (n : ℕ) → count p n + count (λ i. not (p i)) n ≡ n
 unfolding count

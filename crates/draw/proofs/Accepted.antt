@@ -1,0 +1,98 @@
+-- What a draw that is not refused knows: the facts that the inner functions ask for, and its two buffers in the words of the code.
+use mathlib.Core.Path.{_≡_, refl, sym, ap, ap₂, _∙_, subst}
+use mathlib.Core.Bool.{Bool, not}
+use mathlib.Core.List.{List, _++_}
+use Prim.Native.Nat.{ℕ, _+_, _-_, _≤_, _<_}
+use native.Mathlib.Omega.{arith}
+use lib.ListN.{length, getD, drop}
+use Rattle.rules.specs.Limits.{randomRange, mostPanel}
+use Rattle.rules.specs.Selection.{count, listed, every}
+use Rattle.rules.specs.TakeAll.{Frame, frame, turnover, larger, largest, takeAllSize, restTurnover, takeAllGroup, baseWeight, written}
+use Rattle.rules.specs.TakeAll.{Group as RulesGroup}
+use Rattle.rules.specs.Draw.{drawnBy, panelNumbers, panelWeights, drawRefusal, drawNumbers, drawWeights}
+use Rattle.frame.proofs.Accepted.{Accepted, accepted}
+use Rattle.selection.specs.Ranked.{Ranked}
+use Rattle.selection.proofs.Sums.{listed-length}
+use Rattle.selection.proofs.Places.{ranked-short}
+use Rattle.selection.proofs.TakeAll.{size-le, rest-le, outside-count}
+use Rattle.takeall.specs.declared.Group.{Group}
+use Rattle.takeall.specs.Group.{Sized, IsGroup, rulesGroup}
+use Rattle.draw.specs.Sampling.{unnumbered, outside, keyOrder, Ready}
+use Rattle.draw.specs.Panel.{Arrays}
+use Rattle.draw.proofs.Panel.{drawn, drawn-any, drawn-count}
+use Rattle.draw.proofs.Refusals.{frame-accepted}
+
+-- ---- the group
+pub size-is : (ts : List ℕ) (z : ℕ) (g : Group) → IsGroup ts z g → g .n ≡ z - takeAllSize ts z
+unfolding takeAllGroup
+size-is ts z g k = k .sample
+
+rest-of : (ts : List ℕ) (z : ℕ) (g : Group) → IsGroup ts z g → g .rest ≡ restTurnover ts z
+unfolding takeAllGroup
+rest-of ts z g k = k .rest-is
+
+-- q and n are z together
+pub panel-size : (ts : List ℕ) (z : ℕ) (g : Group) → IsGroup ts z g → g .q + g .n ≡ z
+panel-size ts z g k = omega (arith, k .size, size-is ts z g k, size-le ts z)
+
+group-with : (ts : List ℕ) (q n x q′ n′ x′ : ℕ) → q ≡ q′ → n ≡ n′ → x ≡ x′ → _≡_ {A = RulesGroup} (record { takesAll = largest ts q; sampleSize = n; rest = x }) (record { takesAll = largest ts q′; sampleSize = n′; rest = x′ })
+group-with ts q n x q′ n′ x′ a b c = rw (a, b, c)
+
+pub group-is : (ts : List ℕ) (z : ℕ) (g : Group) → IsGroup ts z g → rulesGroup ts g ≡ takeAllGroup ts z
+unfolding takeAllGroup
+group-is ts z g k = group-with ts (g .q) (g .n) (g .rest) (takeAllSize ts z) (z - takeAllSize ts z) (restTurnover ts z) (k .size) (k .sample) (k .rest-is)
+
+outside-enough : (ts : List ℕ) (z : ℕ) (g : Group) → z ≤ length ts → IsGroup ts z g → g .n ≤ count (outside ts g) (length ts)
+unfolding outside
+outside-enough ts z g l k = rw (k .size) (omega (arith, size-is ts z g k, size-le ts z, outside-count ts z l))
+
+-- ---- an accepted frame
+pub frame-sized : (f : Frame) (z start : ℕ) → Accepted f z start → Sized (f .turnovers) z
+frame-sized f z start ok = record { some = ok .units .sizeSome; most = ok .units .sizeFew; within = ok .units .sizeWithin; total = ok .units .total }
+
+-- A frame accepted with any start is ready for every other: a rotation judges it once.
+pub frame-ready : (f : Frame) (z judged start : ℕ) (g : Group) → Accepted f z judged → IsGroup (f .turnovers) z g → start < randomRange → Ready (f .turnovers) (f .randoms) g start
+frame-ready f z judged start g ok k low = record {
+  same = ok .randomsLength;
+  positive = ok .units .positive;
+  within = λ i l. ok .units .within i;
+  random-low = ok .randomLow;
+  start-low = low;
+  rest-low = omega (arith, rest-of (f .turnovers) z g k, rest-le (f .turnovers) z, ok .units .total);
+  size-low = omega (arith, size-is (f .turnovers) z g k, ok .units .sizeFew);
+  enough = outside-enough (f .turnovers) z g (ok .units .sizeWithin) k;
+  group-last = k .last-is;
+}
+
+-- the arrays of a panel
+pub panel-arrays : (ts rs : List ℕ) (z start : ℕ) (g : Group) (large sampled : List ℕ) → Sized ts z → IsGroup ts z g → (length large ≡ mostPanel) × Ranked every (larger ts) (length ts) large z → (length sampled ≡ mostPanel) × Ranked (outside ts g) (keyOrder ts rs g start) (length ts) sampled (g .n) → Arrays ts rs g start large sampled
+panel-arrays ts rs z start g large sampled w k l s = record {
+  large-room = omega (arith, panel-size ts z g k, w .most, l .0);
+  large-ranked = ranked-short every (larger ts) (length ts) z (g .q) large (omega (arith, panel-size ts z g k)) (l .1);
+  sampled-room = omega (arith, panel-size ts z g k, w .most, s .0);
+  sampled-ranked = s .1;
+}
+
+-- ---- the buffers of an accepted draw
+written-all : (number : ℕ) (news buffer : List ℕ) (size : ℕ) → number ≡ 0 → length news ≡ size → written number news buffer ≡ news ++ drop size buffer
+written-all number news buffer size e l = rw (e, l)
+
+module _ (ns ts rs : List ℕ) (z start : ℕ) (panel weights : List ℕ) (g : Group) (e : drawRefusal (frame ns ts rs) z start panel weights ≡ 0) (k : IsGroup ts z g) (large sampled : List ℕ) (ok : Ready ts rs g start) (w : Arrays ts rs g start large sampled) where
+  long : (f : ℕ → ℕ) → length (listed (drawn ts rs g start) f (length ts)) ≡ g .q + g .n
+  long f = listed-length (drawn ts rs g start) f (length ts) ∙ drawn-count ts rs g start large sampled ok w
+
+  numbers-are : panelNumbers (frame ns ts rs) (takeAllGroup ts z) start ≡ listed (drawn ts rs g start) (λ i. getD ns i 0) (length ts)
+  unfolding panelNumbers
+  numbers-are = ap (λ (h : RulesGroup). listed (drawnBy (frame ns ts rs) h start) (λ i. getD ns i 0) (length ts)) (sym (group-is ts z g k)) ∙ ap (λ (p : ℕ → Bool). listed p (λ i. getD ns i 0) (length ts)) (drawn-any ns ts rs g start)
+
+  weights-are : panelWeights (frame ns ts rs) (takeAllGroup ts z) start ≡ listed (drawn ts rs g start) (baseWeight ts (rulesGroup ts g)) (length ts)
+  unfolding panelWeights
+  weights-are = ap (λ (h : RulesGroup). listed (drawnBy (frame ns ts rs) h start) (baseWeight ts h) (length ts)) (sym (group-is ts z g k)) ∙ ap (λ (p : ℕ → Bool). listed p (baseWeight ts (rulesGroup ts g)) (length ts)) (drawn-any ns ts rs g start)
+
+  pub numbers-accepted : drawNumbers (frame ns ts rs) z start panel weights ≡ listed (drawn ts rs g start) (λ i. getD ns i 0) (length ts) ++ drop (g .q + g .n) panel
+  unfolding drawNumbers
+  numbers-accepted = ap (λ (news : List ℕ). written (drawRefusal (frame ns ts rs) z start panel weights) news panel) numbers-are ∙ written-all (drawRefusal (frame ns ts rs) z start panel weights) (listed (drawn ts rs g start) (λ i. getD ns i 0) (length ts)) panel (g .q + g .n) e (long (λ i. getD ns i 0))
+
+  pub weights-accepted : drawWeights (frame ns ts rs) z start panel weights ≡ listed (drawn ts rs g start) (baseWeight ts (rulesGroup ts g)) (length ts) ++ drop (g .q + g .n) weights
+  unfolding drawWeights
+  weights-accepted = ap (λ (news : List ℕ). written (drawRefusal (frame ns ts rs) z start panel weights) news weights) weights-are ∙ written-all (drawRefusal (frame ns ts rs) z start panel weights) (listed (drawn ts rs g start) (baseWeight ts (rulesGroup ts g)) (length ts)) weights (g .q + g .n) e (long (baseWeight ts (rulesGroup ts g)))

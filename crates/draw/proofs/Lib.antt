@@ -1,0 +1,7 @@
+pub mod Sampling
+pub mod Next
+pub mod Joining
+pub mod Refusals
+pub mod Panel
+pub mod Accepted
+pub mod Intended

@@ -1,0 +1,39 @@
+-- The frame's verdict first, then the two buffers.
+use mathlib.Core.Path.{_≡_, refl, sym, ap, ap₂, _∙_, subst}
+use native.Mathlib.Omega.{arith}
+use borrow.Author.Needs.{needs}
+use Prim.Native.Nat.{ℕ}
+use borrow.Author.Tests.{lt-ltb, le-ltb}
+use Rattle.rules.specs.TakeAll.{frame}
+use Rattle.rules.specs.Draw.{frameRefusal, drawRefusal}
+use Rattle.refusals.specs.Number.{verdictOf}
+use Rattle.draw.proofs.Refusals.{frame-first, short-panel, short-weights, none-short}
+use borrow.Author.Needs.{needs}
+use Rattle.draw.proofs.judge.Statement.{statement}
+use Rattle.draw.proofs.judge.Tie as tie
+
+judge-requires : tie.Need-judge-requires
+judge-requires c κs = search needs
+
+enum-known-verdict : tie.Need-enum-known-verdict
+enum-known-verdict c = search needs
+
+enum-told : tie.Need-enum-told
+enum-told c = search needs
+
+returns : tie.Need-returns
+returns c = sym (short-panel _ _ _ _ _ (sym (c .before .before .before .judge .ensures) ∙ ap verdictOf (c .before .enum-told .given .1)) (lt-ltb _ _ (c .if1 .taken)))
+
+returns-2 : tie.Need-returns-2
+returns-2 c = sym (short-weights _ _ _ _ _ (sym (c .before .before .before .before .judge .ensures) ∙ ap verdictOf (c .before .before .enum-told .given .1)) (le-ltb _ _ (c .before .if1 .left)) (lt-ltb _ _ (c .if2 .taken)))
+
+returns-3 : tie.Need-returns-3
+returns-3 c = sym (frame-first _ _ _ _ _ (c .before .verdict .given .0 .0) (sym (c .before .before .before .judge .ensures) ∙ ap verdictOf (c .before .verdict .given .1)))
+
+returns-4 : tie.Need-returns-4
+returns-4 c = sym (none-short _ _ _ _ _ (sym (c .before .before .before .before .judge .ensures) ∙ ap verdictOf (c .before .before .enum-told .given .1)) (le-ltb _ _ (c .before .if1 .left)) (le-ltb _ _ (c .if2 .left)))
+
+pub judge-spec : {M : Type 1} → statement M
+judge-spec =
+    tie.close
+    (tie.spec judge-requires enum-known-verdict enum-told returns returns-2 returns-3 returns-4)

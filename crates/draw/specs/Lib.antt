@@ -1,0 +1,3 @@
+pub mod Sampling
+pub mod Panel
+pub mod Answer
