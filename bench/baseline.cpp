@@ -1,0 +1,170 @@
+// Document 01, "Frame and weights", "Draw" and "Rotation", in plain C++.
+#include "baseline.hpp"
+
+#include <algorithm>
+
+namespace {
+
+constexpr uint32_t kRange = 1000000;
+constexpr uint64_t kMostTurnover = 1000000000000;
+constexpr size_t kMostFrame = 16384;
+constexpr size_t kMostPanel = 100;
+constexpr uint32_t kSteps = 1000;
+
+bool rising(const std::vector<uint32_t>& numbers) {
+    for (size_t i = 1; i < numbers.size(); i++) {
+        if (numbers[i] <= numbers[i - 1]) return false;
+    }
+    return true;
+}
+
+bool bad_turnovers(const std::vector<uint64_t>& turnovers) {
+    uint64_t total = 0;
+    for (uint64_t t : turnovers) {
+        if (t == 0 || t > kMostTurnover - total) return true;
+        total += t;
+    }
+    return false;
+}
+
+// Refusals 1 to 5.
+int judge(const Frame& f, size_t z, uint32_t start) {
+    const size_t units = f.size();
+    if (f.numbers.size() != units || f.randoms.size() != units || units == 0 || units > kMostFrame) return 1;
+    if (!rising(f.numbers)) return 2;
+    if (bad_turnovers(f.turnovers)) return 3;
+    for (uint32_t r : f.randoms) {
+        if (r >= kRange) return 4;
+    }
+    if (start >= kRange) return 4;
+    if (z == 0 || z > kMostPanel || z > units) return 5;
+    return 0;
+}
+
+// The take-all group: a mark for each unit, n and X.
+struct Group {
+    std::vector<uint8_t> marks;
+    uint64_t n = 0;
+    uint64_t rest = 0;
+};
+
+Group take_all(const std::vector<uint64_t>& turnovers, size_t z) {
+    std::vector<uint32_t> order(turnovers.size());
+    for (uint32_t i = 0; i < order.size(); i++) order[i] = i;
+    const auto larger = [&](uint32_t a, uint32_t b) {
+        return turnovers[a] != turnovers[b] ? turnovers[a] > turnovers[b] : a < b;
+    };
+    std::partial_sort(order.begin(), order.begin() + z, order.end(), larger);
+    uint64_t rest = 0;
+    for (uint64_t t : turnovers) rest += t;
+    // "(z − q) × turnover ≥ X holds for at most q units": it fails for the (q + 1)-th largest.
+    size_t q = 0;
+    while (q < z && (z - q) * turnovers[order[q]] >= rest) rest -= turnovers[order[q++]];
+    Group g;
+    g.marks.assign(turnovers.size(), 0);
+    for (size_t k = 0; k < q; k++) g.marks[order[k]] = 1;
+    g.n = z - q;
+    g.rest = g.n == 0 ? 0 : rest;
+    return g;
+}
+
+// A unit outside take-all. The gap X − n × turnover does not depend on the start.
+struct Candidate {
+    uint64_t num;
+    uint64_t den;
+    uint64_t gap;
+    uint64_t turnover;
+    uint32_t random;
+    uint32_t unit;
+};
+
+std::vector<Candidate> candidates(const Frame& f, const Group& g) {
+    std::vector<Candidate> all;
+    all.reserve(f.size());
+    for (uint32_t i = 0; i < f.size(); i++) {
+        if (g.marks[i]) continue;
+        const uint64_t t = f.turnovers[i];
+        all.push_back({0, 0, g.rest - g.n * t, t, f.randoms[i], i});
+    }
+    return all;
+}
+
+// Brings the n with the smallest keys to the front; equal keys by lower unit number.
+void select(std::vector<Candidate>& all, size_t n, uint32_t start) {
+    for (Candidate& c : all) {
+        const uint64_t r = c.random < start ? c.random + kRange - start : c.random - start;
+        c.num = r * c.gap;
+        c.den = (kRange - r) * c.turnover;
+    }
+    if (n == all.size()) return;
+    std::nth_element(all.begin(), all.begin() + n, all.end(), [](const Candidate& a, const Candidate& b) {
+        const auto left = static_cast<unsigned __int128>(a.num) * b.den;
+        const auto right = static_cast<unsigned __int128>(b.num) * a.den;
+        return left != right ? left < right : a.unit < b.unit;
+    });
+}
+
+}  // namespace
+
+Panel baseline::draw(const Frame& f, size_t z, uint32_t start) {
+    Panel panel;
+    panel.refusal = judge(f, z, start);
+    if (panel.refusal != 0) return panel;
+    const Group g = take_all(f.turnovers, z);
+    std::vector<uint8_t> drawn = g.marks;
+    if (g.n > 0) {
+        std::vector<Candidate> all = candidates(f, g);
+        select(all, g.n, start);
+        for (size_t k = 0; k < g.n; k++) drawn[all[k].unit] = 1;
+    }
+    panel.n = g.n;
+    panel.rest = g.rest;
+    for (size_t i = 0; i < f.size(); i++) {
+        if (!drawn[i]) continue;
+        panel.numbers.push_back(f.numbers[i]);
+        panel.weights.push_back(g.n == 0 ? f.turnovers[i] : g.marks[i] ? g.n * f.turnovers[i] : g.rest);
+    }
+    return panel;
+}
+
+Turn baseline::rotate(const Frame& f, size_t z, uint32_t start, const std::vector<uint32_t>& old_panel, uint32_t fraction) {
+    Turn turn;
+    turn.refusal = judge(f, z, start);
+    if (turn.refusal != 0) return turn;
+    if (fraction > 1000 || old_panel.size() > kMostPanel || !rising(old_panel)) {
+        turn.refusal = 7;
+        return turn;
+    }
+    const Group g = take_all(f.turnovers, z);
+    // Members by unit: old panel units in the frame and not take-all now.
+    std::vector<uint32_t> members;
+    for (uint32_t number : old_panel) {
+        const auto at = std::lower_bound(f.numbers.begin(), f.numbers.end(), number);
+        if (at == f.numbers.end() || *at != number) continue;
+        const auto unit = static_cast<uint32_t>(at - f.numbers.begin());
+        if (!g.marks[unit]) members.push_back(unit);
+    }
+    const size_t wanted = (fraction * members.size() + 999) / 1000;
+    std::vector<Candidate> all;
+    if (g.n > 0) all = candidates(f, g);
+    std::vector<uint8_t> sampled(f.size());
+    for (uint32_t step = 0; step < kSteps; step++) {
+        const uint32_t at = (start + 1000 * step) % kRange;
+        std::fill(sampled.begin(), sampled.end(), 0);
+        if (g.n > 0) {
+            select(all, g.n, at);
+            for (size_t k = 0; k < g.n; k++) sampled[all[k].unit] = 1;
+        }
+        size_t leaving = 0;
+        for (uint32_t unit : members) leaving += !sampled[unit];
+        if (leaving < wanted) continue;
+        turn.step = step;
+        turn.start = at;
+        for (uint32_t unit : members) {
+            if (!sampled[unit]) turn.leavers.push_back(f.numbers[unit]);
+        }
+        return turn;
+    }
+    turn.refusal = 8;
+    return turn;
+}

@@ -1,0 +1,136 @@
+// Times the proved draw and rotation against the C++ ones on the shapes of frames.hpp, by turns in one run, and compares the answers.
+// `bench check` runs document 01's cases K1 to K6 and K9 instead.
+#include <algorithm>
+#include <chrono>
+#include <cstdio>
+#include <cstring>
+
+#include "baseline.hpp"
+#include "proved.hpp"
+
+namespace {
+
+int faults = 0;
+
+struct Engine {
+    const char* name;
+    Panel (*draw)(const Frame&, size_t, uint32_t);
+    Turn (*rotate)(const Frame&, size_t, uint32_t, const std::vector<uint32_t>&, uint32_t);
+};
+
+const Engine engines[2] = {{"c++", baseline::draw, baseline::rotate}, {"rattle", proved::draw, proved::rotate}};
+
+// ---- what two implementations must agree on, as one number
+
+uint64_t mixed(uint64_t sum, uint64_t value) {
+    return (sum ^ value) * 1099511628211u;
+}
+
+uint64_t digest(const Panel& p) {
+    uint64_t sum = mixed(mixed(mixed(14695981039346656037u, p.refusal), p.n), p.rest);
+    for (uint32_t number : p.numbers) sum = mixed(sum, number);
+    for (uint64_t weight : p.weights) sum = mixed(sum, weight);
+    return sum;
+}
+
+// The order of the leavers is free: they are sorted first.
+uint64_t digest(Turn t) {
+    std::sort(t.leavers.begin(), t.leavers.end());
+    uint64_t sum = mixed(mixed(mixed(14695981039346656037u, t.refusal), t.step), t.start);
+    for (uint32_t number : t.leavers) sum = mixed(sum, number);
+    return sum;
+}
+
+// ---- timing
+
+// The fastest and the middle time of an engine's calls, in microseconds, and the digest of its answer.
+struct Timing {
+    std::vector<double> times;
+    uint64_t answer = 0;
+
+    double fastest() const { return times.front(); }
+    double middle() const { return times[times.size() / 2]; }
+};
+
+template <class Call>
+void once(Timing& timing, Call call) {
+    const auto from = std::chrono::steady_clock::now();
+    const auto result = call();
+    const std::chrono::duration<double, std::micro> took = std::chrono::steady_clock::now() - from;
+    timing.times.push_back(took.count());
+    timing.answer = digest(result);
+}
+
+// Both engines by turns on the same question, so that a busy machine slows both; one line with the ratio of the middle times.
+template <class Call>
+void compare(const char* what, Shape shape, uint32_t units, size_t z, int runs, Call call) {
+    Timing timings[2];
+    for (const Engine& engine : engines) call(engine);
+    for (int k = 0; k < runs; k++)
+        for (int e = 0; e < 2; e++) once(timings[e], [&] { return call(engines[e]); });
+    for (Timing& timing : timings) std::sort(timing.times.begin(), timing.times.end());
+    const bool same = timings[0].answer == timings[1].answer;
+    if (!same) faults++;
+    std::printf("%-7s %-8s %6u units z = %3zu  %s %10.1f us  %s %10.1f us  ratio %.2f (fastest %.2f)  %s\n", what, name(shape), units, z,
+                engines[0].name, timings[0].middle(), engines[1].name, timings[1].middle(), timings[1].middle() / timings[0].middle(),
+                timings[1].fastest() / timings[0].fastest(), same ? "same answer" : "ANSWERS DIFFER");
+}
+
+void measure() {
+    for (uint32_t units : {1024u, 16384u})
+        for (size_t z : {40u, 100u})
+            for (Shape shape : kShapes) {
+                const Frame frame = make_frame(shape, units, z, 20160018);
+                compare("draw", shape, units, z, 101, [&](const Engine& engine) { return engine.draw(frame, z, 123456); });
+            }
+    // Half of the members leave soon; all of a steady panel never do, and every one of the 1,000 starts is tried.
+    constexpr size_t z = 100;
+    for (Shape shape : {Shape::Skewed, Shape::Steady}) {
+        const Frame frame = make_frame(shape, 16384, z, 20160018);
+        const std::vector<uint32_t> old_panel = baseline::draw(frame, z, 0).numbers;
+        const uint32_t fraction = shape == Shape::Steady ? 1000 : 500;
+        compare("rotate", shape, 16384, z, 3, [&](const Engine& engine) { return engine.rotate(frame, z, 0, old_panel, fraction); });
+    }
+}
+
+// ---- document 01's reference cases
+
+void expect(bool holds, const Engine& engine, const char* which) {
+    if (holds) return;
+    std::printf("%s: %s differs\n", engine.name, which);
+    faults++;
+}
+
+void check(const Engine& engine) {
+    using Numbers = std::vector<uint32_t>;
+    const Frame a = {{11, 12, 13, 14, 15}, {70000000, 10000000, 8000000, 7000000, 5000000}, {300000, 500000, 200000, 900000, 100000}};
+    const Panel k1 = engine.draw(a, 3, 0);
+    expect(k1.n == 2 && k1.rest == 30000000 && k1.numbers == Numbers{11, 13, 15}, engine, "K1");
+    expect(k1.weights == std::vector<uint64_t>{140000000, 30000000, 30000000}, engine, "K1 weights");
+    Frame b = a;
+    b.randoms[4] = 220000;
+    expect(engine.draw(b, 3, 0).numbers == Numbers{11, 12, 13}, engine, "K2");
+    const Frame three = {{1, 2, 3}, {20, 10, 10}, {0, 0, 0}};
+    expect(engine.draw(three, 2, 0).n == 1, engine, "K3");
+    const Frame none = {{1, 2, 3}, {19, 11, 10}, {0, 0, 0}};
+    expect(engine.draw(none, 2, 0).n == 2, engine, "K4");
+    const Panel k5 = engine.draw({{7}, {10}, {5}}, 1, 0);
+    expect(k5.n == 0 && k5.rest == 0 && k5.weights == std::vector<uint64_t>{10}, engine, "K5");
+    const Turn k6 = engine.rotate(a, 3, 0, {13, 15}, 500);
+    expect(k6.step == 101 && k6.leavers == Numbers{15}, engine, "K6");
+    expect(engine.draw(a, 3, k6.start).numbers == Numbers{11, 12, 13}, engine, "K6 new panel");
+    const Frame tie = {{1, 2, 3}, {10, 10, 10}, {500000, 500000, 500000}};
+    expect(engine.draw(tie, 1, 0).numbers == Numbers{1}, engine, "K9");
+}
+
+}  // namespace
+
+int main(int argc, char** argv) {
+    if (argc > 1 && std::strcmp(argv[1], "check") == 0) {
+        for (const Engine& engine : engines) check(engine);
+        std::printf("%d of the reference cases differ\n", faults);
+    } else {
+        measure();
+    }
+    return faults == 0 ? 0 : 1;
+}

@@ -1,0 +1,4 @@
+pub mod FirstPlaces
+pub mod Values
+pub mod Answers
+pub mod Panels

@@ -1,0 +1,25 @@
+-- The shares are whole and the relatives 0 in every place, and so in the first z.
+use mathlib.Core.Path.{refl}
+use Rattle.rules.specs.Limits.{mostPanel}
+use Rattle.job.specs.State.{jobOf}
+use Rattle.job.proofs.FirstPlaces.{filled-front}
+use Rattle.job.proofs.Values.{drawn-is}
+use borrow.Author.Needs.{needs}
+use Rattle.job.proofs.jobs.drawn.Statement.{statement}
+use Rattle.job.proofs.jobs.drawn.Tie as tie
+
+places-requires : tie.Need-places-requires
+places-requires c κs = search needs
+
+places-requires-2 : tie.Need-places-requires-2
+places-requires-2 c κs = search needs
+
+returns : tie.Need-returns
+returns c =
+    let a = c .before .before .args in
+    let shares = filled-front _ (a .size) mostPanel _ (c .before .places .ensures) in
+    let pending = filled-front _ (a .size) mostPanel _ (c .places2 .ensures) in
+    (refl, drawn-is (jobOf (a .job)) _ _ _ _ _ shares pending refl)
+
+pub drawn-spec : {M : Type 1} → statement M
+drawn-spec = tie.close (tie.spec places-requires places-requires-2 returns)
