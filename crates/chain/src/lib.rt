@@ -85,11 +85,12 @@ impl Chain {
                         answer: Answer::Refused(why),
                     },
                     Verdict::Accepted => {
+                        let count = closes + 1;
                         let chain = Chain {
                             weights: next,
                             units: n,
                             index: f,
-                            closes: closes + 1,
+                            closes: count,
                         };
                         Answered {
                             chain: chain,

@@ -77,7 +77,7 @@ pub fn with_chain(job: Job, chain: Chain) -> Job
 pub fn drawn(job: Job, size: usize, weights: [u64; 100]) -> Job
     ensures { λ r. ⌜ (r .size ≡ size) × (jobOf r ≡ drawnJob (jobOf job) (min size mostPanel) (take size weights)) ⌝ }
 {
-    let whole = places(SHARE_SCALE);
+    let whole = places(SHARE_SCALE as u32);
     let pending = places(0);
     let mut next = job;
     next.panel = weights;

@@ -18,7 +18,8 @@ ghost use Rattle.rules.specs.Lists.{anyPair};
 ghost use Rattle.rules.specs.Chain.{badOpenLists, badBase, badShares, badRelative, opening};
 ghost use Rattle.opening.specs.Opened.{inputRefusal, lowWeights, placesRefusal, Fillable};
 
-pub const SHARE_SCALE: u32 = 10_000;
+// A share of 1. Weights are 64-bit, and so is what divides them.
+pub const SHARE_SCALE: u64 = 10_000;
 
 // 9: lists empty, over a panel, or unequal to each other.
 fn bad_lists(w: &[u64], g: &[u32], a: &[u32]) -> bool
@@ -58,10 +59,10 @@ fn bad_shares(g: &[u32]) -> bool
     requires { ⌜ length (now g) ≤ mostPanel ⌝ }
     ensures { λ r. ⌜ r ≡ badShares (now (g .entry)) ⌝ }
 {
-    let mut total: u32 = 0;
+    let mut total: u64 = 0;
     let mut i: usize = 0;
     while i < g.len() {
-        let x = g[i];
+        let x = g[i] as u64;
         if SHARE_SCALE < x {
             return true;
         }
@@ -113,7 +114,7 @@ fn shared_weight(w: u64, g: u32) -> u64
     requires { ⌜ w * g < 2 ^ 64 ⌝ }
     ensures { λ r. ⌜ r ≡ w * g / shareScale ⌝ }
 {
-    w * (g as u64) / (SHARE_SCALE as u64)
+    w * (g as u64) / SHARE_SCALE
 }
 
 // v of one unit.

@@ -95,8 +95,8 @@ enum-known-rest c = search needs
 enum-told-2 : tie.Need-enum-told-2
 enum-told-2 c = search needs
 
-add-t33 : tie.Need-add-t33
-add-t33 c =
+add-count : tie.Need-add-count
+add-count c =
     let r = recordOf (c .before .before .before .before .before .before .before .before .before .before .before .before .before .before .before .before .before .before .before .before .before .before .args .t1) in
     let ps = c .before .before .before .before .before .before .before .before .before .before .before .before .before .before .before .before .before .before .before .before .before .before .args .p .now in
     let e : callRefusal r ps 0 ≡ 0 = sym (c .before .before .before .before .before .before .before .before .before .before .before .before .before .before .before .before .before .judge-call .ensures) ∙ ap verdictOf (c .before .before .before .before .before .before .before .before .before .before .before .before .before .before .before .enum-told .given .1) in
@@ -166,7 +166,7 @@ close-spec =
     judge-close-requires
     enum-known-rest
     enum-told-2
-    add-t33
+    add-count
     returns
     returns-2
     returns-3)

@@ -8,6 +8,9 @@ use borrow.Author.Needs.{needs}
 use Rattle.job.proofs.jobs.drawn.Statement.{statement}
 use Rattle.job.proofs.jobs.drawn.Tie as tie
 
+cast-places : tie.Need-cast-places
+cast-places c = search needs
+
 places-requires : tie.Need-places-requires
 places-requires c κs = search needs
 
@@ -22,4 +25,4 @@ returns c =
     (refl, drawn-is (jobOf (a .job)) _ _ _ _ _ shares pending refl)
 
 pub drawn-spec : {M : Type 1} → statement M
-drawn-spec = tie.close (tie.spec places-requires places-requires-2 returns)
+drawn-spec = tie.close (tie.spec cast-places places-requires places-requires-2 returns)

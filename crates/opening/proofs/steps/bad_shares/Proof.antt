@@ -28,6 +28,9 @@ mul-x c = omega arith
 shared-slice-read-x : tie.Need-shared-slice-read-x Inv-loop μ-loop
 shared-slice-read-x c = omega arith
 
+cast-x : tie.Need-cast-x Inv-loop μ-loop
+cast-x c = omega (arith, c .shared-slice-known .given (c .before .before .loop .i))
+
 returns : tie.Need-returns Inv-loop μ-loop
 unfolding badShares
 returns c =
@@ -73,6 +76,7 @@ bad-shares-spec =
     loop-holds
     mul-x
     shared-slice-read-x
+    cast-x
     returns
     add-total
     add-i
