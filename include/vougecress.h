@@ -90,6 +90,27 @@ struct vougecress_drawn vougecress_draw(const uint32_t *numbers, size_t numbers_
                                         uint32_t *panel, size_t panel_count,
                                         uint64_t *weights, size_t weights_count);
 
+/* ---- Rotation ("Rotation") */
+struct vougecress_rotated {
+    uint32_t refusal;
+    uint32_t k;     /* the smallest step that suffices, 0 to 999 */
+    uint32_t start; /* the new start */
+    uint64_t count; /* leavers */
+};
+
+/*
+ * Rotates an old panel (rising unit numbers, at most 100) by at least `fraction` thousandths of its members. Writes the unit
+ * numbers of the leavers, in no promised order, into the first `count` places of `leavers`, which must be at least as long
+ * as the old panel. Refusals 1 to 8.
+ */
+struct vougecress_rotated vougecress_rotate(const uint32_t *numbers, size_t numbers_count,
+                                            const uint64_t *turnovers, size_t turnovers_count,
+                                            const uint32_t *randoms, size_t randoms_count,
+                                            size_t z, uint32_t old_start,
+                                            const uint32_t *old_panel, size_t old_panel_count,
+                                            uint32_t fraction,
+                                            uint32_t *leavers, size_t leavers_count);
+
 /* ---- Total ("Total"): shares in millionths that add to 1,000,000, and an index a sector. Refusal 14. */
 struct vougecress_figure vougecress_total(const uint32_t *shares, size_t shares_count,
                                           const uint64_t *indices, size_t indices_count);

@@ -3,10 +3,12 @@ use Prim.Native.Nat.{ℕ}
 use Rattle.rules.specs.Chain as rules
 use Rattle.rules.specs.TakeAll as groups
 use Rattle.rules.specs.Draw as draws
+use Rattle.rules.specs.Rotation as rotations
 use Rattle.rules.specs.Total as totals
 use Rattle.vougecress.specs.declared.Figure.{Figure}
 use Rattle.vougecress.specs.declared.frames.Taken.{Taken}
 use Rattle.vougecress.specs.declared.frames.Drawn.{Drawn}
+use Rattle.vougecress.specs.declared.rotates.Rotated.{Rotated}
 
 abbrev pub figureFrom : rules.Answer → Figure
 figureFrom (rules.Answer.refused n) = record { refusal = n; figure = 0 }
@@ -23,3 +25,7 @@ takenFrom (groups.TakeAllAnswer.taken q n x) = record { refusal = 0; q = q; n = 
 abbrev pub drawnFrom : draws.DrawAnswer → Drawn
 drawnFrom (draws.DrawAnswer.refused k) = record { refusal = k; n = 0; rest = 0 }
 drawnFrom (draws.DrawAnswer.drawn n x) = record { refusal = 0; n = n; rest = x }
+
+abbrev pub rotatedFrom : rotations.RotationAnswer → Rotated
+rotatedFrom (rotations.RotationAnswer.refused n) = record { refusal = n; k = 0; start = 0; count = 0 }
+rotatedFrom (rotations.RotationAnswer.rotated k start n) = record { refusal = 0; k = k; start = start; count = n }

@@ -3,6 +3,7 @@
 // include/vougecress.h documents each function for its caller.
 pub mod frames;
 pub mod record;
+pub mod rotates;
 
 use chain::Answer;
 use opening::Opening;

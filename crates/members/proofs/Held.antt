@@ -1,0 +1,144 @@
+-- Units that are held as a list of places: one more at the end, none for units that lack the mark; and the second look, at the
+-- listed units alone, which lists of them what a look at the whole frame for both marks would list.
+use mathlib.Core.Path.{_≡_, refl, sym, ap, _∙_, subst}
+use mathlib.Core.Logic.{⊎-elim}
+use mathlib.Core.Bool.{Bool, true, false, cond}
+use mathlib.Core.List.{List, [], _∷_, _++_, append-nil}
+use Prim.Native.Nat.{ℕ, zero, suc, _+_, _≤_, _<_}
+use native.Mathlib.Nat.{not-suc-le-zero}
+use native.Mathlib.Omega.{arith}
+use native.Mathlib.Numerals.{add-one}
+use lib.ListN.{length, getD, take, set, length-set, length-take, length-append, List·getD-append}
+use lib.Seq.{take-suc-set, take-take, take-at, getD-at, getD-take}
+use Rattle.rules.specs.Limits.{mostPanel}
+use Rattle.rules.specs.Tests.{_and_}
+use Rattle.rules.specs.Selection.{count, listed, sumOf, every}
+use Rattle.selection.proofs.Logic.{lt-or-ge}
+use Rattle.selection.proofs.Sums.{count-yes, count-not, listed-length, listed-not, listed-skip, count-skip}
+use Rattle.members.specs.declared.Places.{Places}
+use Rattle.members.specs.Places.{Holding, PlacesOf}
+
+abbrev pub held : List ℕ → ℕ → Places
+held ps n = record { places = ps; count = n }
+
+-- nothing is held yet
+pub hold-none : (mark : ℕ → Bool) (f : ℕ → ℕ) (ps : List ℕ) → length ps ≡ mostPanel → Holding mark f 0 (held ps 0)
+unfolding count sumOf listed
+hold-none mark f ps l = record { room = l; many = refl; units = refl }
+
+-- units without the mark change nothing
+pub hold-skip : (mark : ℕ → Bool) (f : ℕ → ℕ) (i n : ℕ) (r : Places) → i ≤ n → ((k : ℕ) → i ≤ k → k < n → mark k ≡ false) → Holding mark f i r → Holding mark f n r
+hold-skip mark f i n r l none h = record {
+  room = h .room;
+  many = h .many ∙ sym (count-skip mark i n l none);
+  units = h .units ∙ sym (listed-skip mark f i n l none);
+}
+
+pub hold-not : (mark : ℕ → Bool) (f : ℕ → ℕ) (i : ℕ) (r : Places) → mark i ≡ false → Holding mark f i r → Holding mark f (i + 1) r
+hold-not mark f i r unmarked h = record {
+  room = h .room;
+  many = h .many ∙ sym (count-not mark i unmarked);
+  units = h .units ∙ sym (listed-not mark f i unmarked);
+}
+
+-- one with the mark is stored behind those that are there
+pub hold-more : (mark : ℕ → Bool) (f : ℕ → ℕ) (i : ℕ) (ps : List ℕ) (n : ℕ) → mark i ≡ true → n < length ps → Holding mark f i (held ps n) → Holding mark f (i + 1) (held (set ps n (f i)) (n + 1))
+unfolding listed
+hold-more mark f i ps n marked l h = record {
+  room = length-set ps n (f i) ∙ h .room;
+  many = ap (λ (k : ℕ). k + 1) (h .many) ∙ sym (count-yes mark i marked);
+  units = rw (add-one n, add-one i, marked) (take-suc-set ps n (f i) l ∙ ap (λ (xs : List ℕ). xs ++ (f i ∷ [])) (h .units));
+}
+
+-- the same places under other names
+pub hold-same : (mark : ℕ → Bool) (f : ℕ → ℕ) (i : ℕ) (ps qs : List ℕ) (n m : ℕ) → ps ≡ qs → n ≡ m → Holding mark f i (held qs m) → Holding mark f i (held ps n)
+hold-same mark f i ps qs n m e g h = subst (λ (k : ℕ). Holding mark f i (held ps k)) (sym g) (subst (λ (xs : List ℕ). Holding mark f i (held xs m)) (sym e) h)
+
+-- no more are held than there is room for
+pub hold-most : (mark : ℕ → Bool) (f : ℕ → ℕ) (n : ℕ) (r : Places) → Holding mark f n r → r .count ≤ mostPanel
+hold-most mark f n r h =
+    let many : length (listed mark f n) ≡ r .count = listed-length mark f n ∙ sym (h .many) in
+    omega (arith, ap length (h .units), length-take (r .count) (r .places), h .room)
+
+-- what is listed of the units below n is below n
+listed-low : (mark : ℕ → Bool) (n j : ℕ) → j < length (listed mark (λ i. i) n) → getD (listed mark (λ i. i) n) j 0 < n
+unfolding listed
+listed-low mark zero j h = absurd (not-suc-le-zero h)
+listed-low mark (suc n) j h = go (mark n) h (listed-low mark n j)
+  where
+    go : (b : Bool) → j < length (listed mark (λ i. i) n ++ cond b (n ∷ []) []) → (j < length (listed mark (λ i. i) n) → getD (listed mark (λ i. i) n) j 0 < n) → getD (listed mark (λ i. i) n ++ cond b (n ∷ []) []) j 0 < suc n
+    go true l rec =
+        ⊎-elim front back (lt-or-ge j (length (listed mark (λ i. i) n)))
+      where
+        front : j < length (listed mark (λ i. i) n) → getD (listed mark (λ i. i) n ++ (n ∷ [])) j 0 < suc n
+        front k = rw (List·getD-append (listed mark (λ i. i) n) (n ∷ []) 0 j k) (omega (arith, rec k))
+
+        back : length (listed mark (λ i. i) n) ≤ j → getD (listed mark (λ i. i) n ++ (n ∷ [])) j 0 < suc n
+        back k =
+            let e : length (listed mark (λ i. i) n) ≡ j = omega (arith, simp length-append at l) in
+            rw (getD-at (listed mark (λ i. i) n) n [] 0 j e) (omega arith)
+    go false l rec = rw append-nil (omega (arith, rec (rw append-nil at l)))
+
+-- each place that is held is one of the frame
+pub place-low : (mark : ℕ → Bool) (n : ℕ) (r : Places) → PlacesOf mark n r → (j : ℕ) → j < r .count → getD (r .places) j 0 < n
+place-low mark n r h j l =
+    rw (sym (getD-take (r .count) (r .places) j 0 l), h .units)
+    (listed-low mark n j (omega (arith, listed-length mark (λ i. i) n, h .many)))
+
+-- ---- the second look
+-- one more place, and the places before it
+last-unit : (xs ps : List ℕ) (n k : ℕ) → length xs ≡ k → take (suc k) ps ≡ xs ++ (n ∷ []) → (take k ps ≡ xs) × (getD ps k 0 ≡ n)
+last-unit xs ps n k l e = (
+  sym (take-take k (suc k) ps (omega arith)) ∙ ap (take k) e ∙ take-at xs (n ∷ []) k l,
+  sym (getD-take (suc k) ps k 0 (omega arith)) ∙ ap (λ (ys : List ℕ). getD ys k 0) e ∙ getD-at xs n [] 0 k l,
+)
+
+listed-again : (first second : ℕ → Bool) (f : ℕ → ℕ) (n : ℕ) (ps : List ℕ) → take (count first n) ps ≡ listed first (λ i. i) n → listed (λ j. second (getD ps j 0)) (λ j. f (getD ps j 0)) (count first n) ≡ listed (λ i. first i and second i) f n
+unfolding listed count sumOf _and_
+listed-again first second f zero ps h = refl
+listed-again first second f (suc n) ps h = go (first n) h (listed-again first second f n ps)
+  where
+    go : (b : Bool) → take (count first n + cond b 1 0) ps ≡ listed first (λ i. i) n ++ cond b (n ∷ []) [] → (take (count first n) ps ≡ listed first (λ i. i) n → listed (λ j. second (getD ps j 0)) (λ j. f (getD ps j 0)) (count first n) ≡ listed (λ i. first i and second i) f n) → listed (λ j. second (getD ps j 0)) (λ j. f (getD ps j 0)) (count first n + cond b 1 0) ≡ listed (λ i. first i and second i) f n ++ cond (b and second n) (f n ∷ []) []
+    go true t rec =
+        let both = last-unit (listed first (λ i. i) n) ps n (count first n) (listed-length first (λ i. i) n) (rw (add-one (count first n)) at t) in
+        rw (add-one (count first n), both .1) (ap (λ (xs : List ℕ). xs ++ cond (second n) (f n ∷ []) []) (rec (both .0)))
+    go false t rec =
+        let same : count first n + 0 ≡ count first n = omega arith in
+        rw (same, append-nil) (rec (rw (same, append-nil) at t))
+
+-- THE HELD UNITS ALONE: of the units with the first mark, held as a list of places, those with the second are listed as a look at the
+-- whole frame for both marks would list them, and are as many
+module _ (first second : ℕ → Bool) (n : ℕ) (r : Places) (h : PlacesOf first n r) where
+  pub listed-held : (f : ℕ → ℕ) → listed (λ j. second (getD (r .places) j 0)) (λ j. f (getD (r .places) j 0)) (r .count) ≡ listed (λ i. first i and second i) f n
+  listed-held f =
+      ap (listed (λ j. second (getD (r .places) j 0)) (λ j. f (getD (r .places) j 0))) (h .many)
+      ∙ listed-again first second f n (r .places) (sym (ap (λ (k : ℕ). take k (r .places)) (h .many)) ∙ h .units)
+
+  pub count-held : count (λ j. second (getD (r .places) j 0)) (r .count) ≡ count (λ i. first i and second i) n
+  count-held =
+      sym (listed-length (λ j. second (getD (r .places) j 0)) (λ j. getD (r .places) j 0) (r .count))
+      ∙ ap length (listed-held (λ i. i))
+      ∙ listed-length (λ i. first i and second i) (λ i. i) n
+
+  -- those with both marks, held in their turn
+  pub holding-both : (s : Places) → Holding (λ j. second (getD (r .places) j 0)) (λ j. getD (r .places) j 0) (r .count) s → PlacesOf (λ i. first i and second i) n s
+  holding-both s g = record {
+    room = g .room;
+    many = g .many ∙ count-held;
+    units = g .units ∙ listed-held (λ i. i);
+  }
+
+-- ---- what is listed of the held units
+listed-same : (p q : ℕ → Bool) (f : ℕ → ℕ) (n : ℕ) → ((i : ℕ) → p i ≡ q i) → listed p f n ≡ listed q f n
+unfolding listed
+listed-same p q f zero h = refl
+listed-same p q f (suc n) h = rw (h n, listed-same p q f n h)
+
+-- f of the held units, in the order of their places, is f of the marked units of the frame
+pub listed-all : (mark : ℕ → Bool) (f : ℕ → ℕ) (n : ℕ) (r : Places) → PlacesOf mark n r → listed every (λ j. f (getD (r .places) j 0)) (r .count) ≡ listed mark f n
+unfolding _and_
+listed-all mark f n r h = listed-held mark every n r h f ∙ listed-same (λ i. mark i and true) mark f n (λ i. both (mark i))
+  where
+    both : (b : Bool) → (b and true) ≡ b
+    both true = refl
+    both false = refl

@@ -1,0 +1,4 @@
+pub mod Refusals
+pub mod Members
+pub mod Ready
+pub mod Composition

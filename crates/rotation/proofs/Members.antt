@@ -1,0 +1,59 @@
+-- A step looks at the members alone: who of them leaves, how many, the first step at which enough do, and the list of leavers are those of
+-- `rules`, which look at the whole frame.
+use mathlib.Core.Path.{_≡_, refl}
+use mathlib.Core.Bool.{Bool, not}
+use mathlib.Core.List.{List, []}
+use Prim.Native.Nat.{ℕ, zero, suc, _<_}
+use lib.ListN.{length, getD}
+use native.Mathlib.Nat.{mod-lt}
+use lib.Dec.{lit<}
+use Rattle.rules.specs.Limits.{steps, randomRange}
+use Rattle.rules.specs.Selection.{count, leastFrom}
+use Rattle.rules.specs.TakeAll.{Frame, Group, frame}
+use Rattle.rules.specs.Draw.{sampledBy, keyBelow}
+use Rattle.rules.specs.Rotation.{member, members, required, startAt, leaves, suffices, leastStep, leavers}
+use Rattle.members.specs.declared.Places.{Places}
+use Rattle.members.specs.Places.{Holding, PlacesOf}
+use Rattle.members.proofs.Held.{count-held, listed-all, holding-both}
+use Rattle.rotation.specs.Leaving.{memberLeaves, leaving, enoughLeave, firstStep, inPlaceOrder}
+
+-- tests that agree find the same number
+least-same : (p q : ℕ → Bool) (tries from : ℕ) → ((k : ℕ) → p k ≡ q k) → leastFrom p tries from ≡ leastFrom q tries from
+unfolding leastFrom
+least-same p q zero from h = refl
+least-same p q (suc tries) from h = rw (h from, least-same p q tries (suc from) h)
+
+module _ (ns ts rs : List ℕ) (g : Group) (panel : List ℕ) (m : Places) (h : PlacesOf (member (frame ns ts []) g panel) (length ts) m) where
+  -- neither keys nor members read what the other does
+  abbrev f : Frame
+  f = frame ns ts rs
+
+  pub members-many : m .count ≡ members f g panel
+  unfolding members member
+  members-many = h .many
+
+  pub leaving-is : (start : ℕ) → leaving (frame [] ts rs) g m start ≡ count (leaves f g panel start) (length ts)
+  unfolding leaving memberLeaves leaves member sampledBy keyBelow
+  leaving-is start = count-held (member (frame ns ts []) g panel) (λ i. not (sampledBy f g start i)) (length ts) m h
+
+  -- the members that leave, held in their turn, are the leavers, and so are their numbers
+  pub leavers-held : (start : ℕ) (r : Places) → Holding (memberLeaves (frame [] ts rs) g (m .places) start) (λ j. getD (m .places) j 0) (m .count) r → PlacesOf (leaves f g panel start) (length ts) r
+  unfolding memberLeaves leaves member sampledBy keyBelow
+  leavers-held start r l = holding-both (member (frame ns ts []) g panel) (λ i. not (sampledBy f g start i)) (length ts) m h r l
+
+  pub leavers-are : (start : ℕ) (r : Places) → PlacesOf (leaves f g panel start) (length ts) r → inPlaceOrder ns r ≡ leavers f g panel start
+  unfolding inPlaceOrder leavers
+  leavers-are start r l = listed-all (leaves f g panel start) (λ i. getD ns i 0) (length ts) r l
+
+  suffices-is : (old fraction k : ℕ) → enoughLeave (frame [] ts rs) g m old (required fraction (m .count)) k ≡ suffices f g old panel fraction k
+  unfolding enoughLeave suffices
+  suffices-is old fraction k = rw (leaving-is (startAt old k), members-many)
+
+  pub first-is : (old fraction : ℕ) → firstStep (frame [] ts rs) g m old (required fraction (m .count)) ≡ leastStep f g old panel fraction
+  unfolding firstStep leastStep
+  first-is old fraction = least-same (enoughLeave (frame [] ts rs) g m old (required fraction (m .count))) (suffices f g old panel fraction) steps 0 (suffices-is old fraction)
+
+-- a start that a step leads to is one
+pub start-low : (old k : ℕ) → startAt old k < randomRange
+unfolding startAt
+start-low old k = mod-lt _ (lit< tt)

@@ -1,0 +1,31 @@
+-- `required` meets its contract: the product of at most 1,000 and at most 100 fits.
+use mathlib.Core.Path.{refl}
+use native.Mathlib.Omega.{arith}
+use native.Mathlib.Nat.{mul-le-mul}
+use Rattle.rules.specs.Rotation.{required}
+use borrow.Author.Needs.{needs}
+use Rattle.rotation.proofs.required.Statement.{statement}
+use Rattle.rotation.proofs.required.Tie as tie
+
+mul-thousandths : tie.Need-mul-thousandths
+mul-thousandths c = omega (arith, mul-le-mul (c .pre .0) (c .pre .1))
+
+cast-scale : tie.Need-cast-scale
+cast-scale c = search needs
+
+sub-result : tie.Need-sub-result
+sub-result c = search needs
+
+add-result : tie.Need-add-result
+add-result c = omega (arith, mul-le-mul (c .pre .0) (c .pre .1))
+
+div-result : tie.Need-div-result
+div-result c = search needs
+
+returns : tie.Need-returns
+unfolding required
+returns c = refl
+
+pub required-spec : {M : Type 1} → statement M
+required-spec =
+    tie.close (tie.spec mul-thousandths cast-scale sub-result add-result div-result returns)

@@ -1,0 +1,4 @@
+pub mod Judge
+pub mod Leaving
+pub mod Search
+pub mod Answer
