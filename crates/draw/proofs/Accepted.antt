@@ -1,26 +1,25 @@
 -- What a draw that is not refused knows: the facts that the inner functions ask for, and its two buffers in the words of the code.
-use mathlib.Core.Path.{_≡_, refl, sym, ap, ap₂, _∙_, subst}
-use mathlib.Core.Bool.{Bool, not}
+use mathlib.Core.Path.{_≡_, sym, ap, _∙_}
+use mathlib.Core.Bool.{Bool}
 use mathlib.Core.List.{List, _++_}
 use Prim.Native.Nat.{ℕ, _+_, _-_, _≤_, _<_}
 use native.Mathlib.Omega.{arith}
 use lib.ListN.{length, getD, drop}
 use Rattle.rules.specs.Limits.{randomRange, mostPanel}
 use Rattle.rules.specs.Selection.{count, listed, every}
-use Rattle.rules.specs.TakeAll.{Frame, frame, turnover, larger, largest, takeAllSize, restTurnover, takeAllGroup, baseWeight, written}
+use Rattle.rules.specs.TakeAll.{Frame, frame, larger, largest, takeAllSize, restTurnover, takeAllGroup, baseWeight, written}
 use Rattle.rules.specs.TakeAll.{Group as RulesGroup}
 use Rattle.rules.specs.Draw.{drawnBy, panelNumbers, panelWeights, drawRefusal, drawNumbers, drawWeights}
-use Rattle.frame.proofs.Accepted.{Accepted, accepted}
+use Rattle.frame.proofs.Accepted.{Accepted}
 use Rattle.selection.specs.Ranked.{Ranked}
 use Rattle.selection.proofs.Sums.{listed-length}
 use Rattle.selection.proofs.Places.{ranked-short}
 use Rattle.selection.proofs.TakeAll.{size-le, rest-le, outside-count}
 use Rattle.takeall.specs.declared.Group.{Group}
 use Rattle.takeall.specs.Group.{Sized, IsGroup, rulesGroup}
-use Rattle.draw.specs.Sampling.{unnumbered, outside, keyOrder, Ready}
+use Rattle.draw.specs.Sampling.{outside, keyOrder, Ready}
 use Rattle.draw.specs.Panel.{Arrays}
 use Rattle.draw.proofs.Panel.{drawn, drawn-any, drawn-count}
-use Rattle.draw.proofs.Refusals.{frame-accepted}
 
 -- ---- the group
 pub size-is : (ts : List ℕ) (z : ℕ) (g : Group) → IsGroup ts z g → g .n ≡ z - takeAllSize ts z

@@ -1,17 +1,16 @@
 -- The definitions of the draw are the intended ones, for every accepted frame and start: exactly n units are sampled, exactly z are in the
 -- panel with as many weights, and the panel's numbers rise. Cited from the laws over an arbitrary order, for the order by Pareto keys.
-use mathlib.Core.Path.{_≡_, refl, sym, ap, _∙_}
-use mathlib.Core.Bool.{Bool, true, false, not}
-use mathlib.Core.List.{List}
-use Prim.Native.Nat.{ℕ, _-_, _*_, _≤_, _<_}
+use mathlib.Core.Path.{_≡_}
+use mathlib.Core.Bool.{true, false, not}
+use Prim.Native.Nat.{ℕ, _*_, _<_}
 use native.Mathlib.Omega.{arith}
 use lib.ListN.{length, getD}
 use Rattle.rules.specs.Lists.{rising}
-use Rattle.rules.specs.Selection.{count, firsts, byKey, listed}
-use Rattle.rules.specs.TakeAll.{Frame, turnover, largest, takeAllSize, restTurnover, takeAllGroup, baseWeight}
+use Rattle.rules.specs.Selection.{count, byKey}
+use Rattle.rules.specs.TakeAll.{Frame, turnover, largest, takeAllSize, takeAllGroup, baseWeight}
 use Rattle.rules.specs.Draw.{keyBelow, sampledBy, drawnBy, panelNumbers, panelWeights, frameRefusal}
 use Rattle.frame.proofs.Accepted.{Accepted, accepted}
-use Rattle.frame.proofs.Refusals.{Passed, passed}
+use Rattle.frame.proofs.Refusals.{passed}
 use Rattle.keys.proofs.Keys.{keys-order-among}
 use Rattle.selection.proofs.Orders.{Order}
 use Rattle.selection.proofs.TakeAll.{outside-below}

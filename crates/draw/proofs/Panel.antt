@@ -1,9 +1,9 @@
 -- The panel from its two arrays. A unit is drawn where it stands in one of them; so the next higher unit of the two arrays is the next unit of the panel.
 use mathlib.Core.Path.{_≡_, refl, sym, ap, ap₂, _∙_, subst}
 use mathlib.Core.Logic.{⊎-elim, _⊎_, inl, inr}
-use mathlib.Core.Bool.{Bool, true, false, not}
+use mathlib.Core.Bool.{Bool, true, false}
 use mathlib.Core.List.{List, _++_}
-use Prim.Native.Nat.{ℕ, suc, _+_, _-_, _≤_, _<_}
+use Prim.Native.Nat.{ℕ, _+_, _≤_, _<_}
 use native.Mathlib.Nat.{le-refl, eq-or-lt-of-le}
 use native.Mathlib.Omega.{arith}
 use lib.ListN.{length, getD, set, drop}
@@ -12,7 +12,7 @@ use Rattle.rules.specs.Selection.{count, rank, firsts, listed, every}
 use Rattle.rules.specs.TakeAll.{frame, larger, largest}
 use Rattle.rules.specs.Draw.{keyBelow, sampledBy, drawnBy}
 use Rattle.selection.specs.Ranked.{Ranked}
-use Rattle.selection.proofs.Logic.{not-both, or-on, or-off, or-second}
+use Rattle.selection.proofs.Logic.{or-on, or-off, or-second}
 use Rattle.selection.proofs.Sums.{count-yes, count-skip, count-rest, listed-skip, list-store}
 use Rattle.selection.proofs.Places.{held-first, first-held, count-held}
 use Rattle.selection.proofs.TakeAll.{larger-order}

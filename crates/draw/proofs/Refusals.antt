@@ -1,15 +1,15 @@
 -- Refusals 1 to 6 as `draw` gives them, and what an accepted call knows.
-use mathlib.Core.Path.{_≡_, refl, sym, ap, _∙_}
-use mathlib.Core.Bool.{Bool, true, false}
-use mathlib.Core.List.{List, _++_}
-use Prim.Native.Nat.{ℕ, zero, suc, _≤_, _<_}
+use mathlib.Core.Path.{_≡_, refl, sym, _∙_}
+use mathlib.Core.Bool.{true, false}
+use mathlib.Core.List.{List}
+use Prim.Native.Nat.{ℕ, zero, suc, _≤_}
 use native.Mathlib.Omega.{arith}
 use lib.ListN.{length}
 use lib.Dec.{ltb}
 use borrow.Author.Tests.{ltb-false}
 use Rattle.rules.specs.Tests.{_or_, refuse}
-use Rattle.rules.specs.TakeAll.{Frame, Group, written, takeAllGroup}
-use Rattle.rules.specs.Draw.{DrawAnswer, refused, drawn, frameRefusal, drawRefusal, drawAnswer, drawNumbers, drawWeights}
+use Rattle.rules.specs.TakeAll.{Frame, takeAllGroup}
+use Rattle.rules.specs.Draw.{refused, drawn, frameRefusal, drawRefusal, drawAnswer, drawNumbers, drawWeights}
 use Rattle.refusals.specs.Number.{numberOf}
 use Rattle.refusals.specs.declared.Refusal.{Refusal}
 use Rattle.selection.proofs.Logic.{or-on, or-off, or-left, or-right}

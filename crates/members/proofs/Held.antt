@@ -18,6 +18,7 @@ use Rattle.selection.proofs.Sums.{count-yes, count-not, listed-length, listed-n
 use Rattle.members.specs.declared.Places.{Places}
 use Rattle.members.specs.Places.{Holding, PlacesOf}
 
+-- n places of a list, as the code holds them
 abbrev pub held : List ℕ → ℕ → Places
 held ps n = record { places = ps; count = n }
 

@@ -24,7 +24,7 @@ least-same p q zero from h = refl
 least-same p q (suc tries) from h = rw (h from, least-same p q tries (suc from) h)
 
 module _ (ns ts rs : List ℕ) (g : Group) (panel : List ℕ) (m : Places) (h : PlacesOf (member (frame ns ts []) g panel) (length ts) m) where
-  -- neither keys nor members read what the other does
+  -- the whole frame; members read no random number of it, keys no unit number
   abbrev f : Frame
   f = frame ns ts rs
 

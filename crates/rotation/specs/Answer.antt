@@ -8,6 +8,7 @@ use Rattle.refusals.specs.Number.{numberOf}
 use Rattle.rotation.specs.declared.Answer.{Answer}
 use Rattle.rotation.specs.declared.Answer.the-variants.{Rotated, Refused}
 
+-- the refusal's number, or k, the new start and the count
 abbrev pub answerOf : Answer → RotationAnswer
 answerOf (Rotated k start count) = rotated k start count
 answerOf (Refused why) = refused (numberOf why)

@@ -1,5 +1,5 @@
 -- The smallest number at which a test holds, as a loop that counts upward finds it.
-use mathlib.Core.Path.{_≡_, refl, sym, _∙_}
+use mathlib.Core.Path.{_≡_, refl}
 use mathlib.Core.Logic.{⊎-elim, _⊎_}
 use mathlib.Core.Bool.{Bool, true, false, cond}
 use Prim.Native.Nat.{ℕ, zero, suc, _+_, _-_, _≤_, _<_}
@@ -7,7 +7,6 @@ use native.Mathlib.Nat.{eq-or-lt-of-le}
 use native.Mathlib.Omega.{arith}
 use native.Mathlib.Numerals.{add-one}
 use Rattle.rules.specs.Selection.{leastFrom}
-use Rattle.selection.proofs.Logic.{not-both}
 
 -- at q, of those below z: the test holds, it fails, and none is left
 pub least-hit : (p : ℕ → Bool) (z q : ℕ) → q < z → p q ≡ true → leastFrom p (z - q) q ≡ q

@@ -1,17 +1,17 @@
 -- A strict total order of the marked units, their ranks in it, and the threshold. Everything here is for an arbitrary order:
 -- the largest turnovers and the smallest keys are two instances, and another key is one more.
-use mathlib.Core.Path.{_≡_, refl, sym, ap, _∙_}
+use mathlib.Core.Path.{_≡_, refl, _∙_}
 use mathlib.Core.Logic.{⊎-elim, _⊎_, inl, inr}
 use mathlib.Core.Bool.{Bool, true, false, not, cond}
-use Prim.Native.Nat.{ℕ, zero, suc, _+_, _≤_, _<_}
+use Prim.Native.Nat.{ℕ, suc, _+_, _≤_, _<_}
 use native.Mathlib.Nat.{le-refl, le-of-lt}
 use native.Mathlib.Omega.{arith}
 use lib.Dec.{ltb}
 use borrow.Author.Tests.{lt-ltb, le-ltb, ltb-true, ltb-false}
 use Rattle.rules.specs.Tests.{_or_, _and_}
 use Rattle.rules.specs.Selection.{sumOf, count, rank, firsts, byKey, every}
-use Rattle.selection.proofs.Logic.{not-both, and-left, and-right, and-true, and-off, and-on}
-use Rattle.selection.proofs.Sums.{sum-le, sum-less, sum-none}
+use Rattle.selection.proofs.Logic.{not-both, and-left, and-right, and-true, and-on}
+use Rattle.selection.proofs.Sums.{sum-le, sum-less}
 
 -- A strict total order on the units below n that have the mark.
 pub record Order (among : ℕ → Bool) (before : ℕ → ℕ → Bool) (n : ℕ) : Type 0 where

@@ -1,6 +1,6 @@
 -- Document 01, "Draw": the panel, for an arbitrary order of the units outside take-all. Exactly n are sampled, exactly z are in
 -- the panel, and its numbers rise where the frame's do. The crate `draw` cites these for the order by Pareto keys.
-use mathlib.Core.Path.{_≡_, refl, sym, ap, _∙_, subst}
+use mathlib.Core.Path.{_≡_, refl, _∙_, subst}
 use mathlib.Core.Logic.{⊎-elim}
 use mathlib.Core.Bool.{Bool, true, false, not, cond}
 use mathlib.Core.List.{List, [], _∷_, _++_, append-nil}
@@ -10,7 +10,7 @@ use native.Mathlib.Omega.{arith}
 use lib.ListN.{length, getD}
 use lib.Dec.{ltb}
 use borrow.Author.Tests.{lt-ltb, ltb-true}
-use Rattle.rules.specs.Tests.{_or_, _and_}
+use Rattle.rules.specs.Tests.{_or_}
 use Rattle.rules.specs.Lists.{rising, risesFrom}
 use Rattle.rules.specs.Selection.{count, rank, firsts, listed}
 use Rattle.rules.specs.TakeAll.{largest, takeAllSize}

@@ -1,6 +1,6 @@
 -- Document 01, "Frame and weights": the take-all group. The largest unit outside the q largest decides whether q fits, so one
 -- scan of the largest units finds q. From that: exactly q units reach X, and outside the group n × turnover stays below X.
-use mathlib.Core.Path.{_≡_, refl, sym, ap, _∙_, subst}
+use mathlib.Core.Path.{_≡_, refl, sym, ap, _∙_}
 use mathlib.Core.Logic.{⊎-elim}
 use mathlib.Core.Bool.{Bool, true, false, not, cond}
 use mathlib.Core.List.{List}
@@ -10,16 +10,16 @@ use native.Mathlib.Omega.{arith}
 use native.Mathlib.Numerals.{add-one}
 use lib.ListN.{length, getD}
 use lib.Dec.{ltb, leb}
-use borrow.Author.Tests.{lt-ltb, le-ltb, ltb-true, ltb-false, leb-true, leb-false, le-leb, lt-leb, not-true}
-use Rattle.rules.specs.Tests.{_or_, _and_}
+use borrow.Author.Tests.{lt-ltb, le-ltb, ltb-true, ltb-false, leb-true, le-leb, lt-leb}
+use Rattle.rules.specs.Tests.{_or_}
 use Rattle.rules.specs.Lists.{sum}
 use Rattle.rules.specs.Selection.{sumOf, count, rank, firsts, byKey, leastFrom, every}
-use Rattle.rules.specs.TakeAll.{turnover, moreTurnover, larger, largest, restWithout, reachesRest, fits, takeAllSize, restTurnover, takeAllGroup}
+use Rattle.rules.specs.TakeAll.{turnover, moreTurnover, larger, largest, restWithout, reachesRest, fits, takeAllSize, restTurnover}
 use Rattle.selection.specs.Ranked.{Ranked}
-use Rattle.selection.proofs.Logic.{not-both, lt-or-ge, and-on, and-right, and-true}
+use Rattle.selection.proofs.Logic.{lt-or-ge, and-on}
 use Rattle.selection.proofs.Sums.{sum-le, sum-both, sum-list, sum-none, count-every, count-both}
-use Rattle.selection.proofs.Orders.{Order, KeyOrder, key-order, by-not, rank-less, rank-le, firsts-zero, threshold}
-use Rattle.selection.proofs.Places.{firsts-step, count-held, count-firsts, all-ranked}
+use Rattle.selection.proofs.Orders.{Order, KeyOrder, key-order, by-not, rank-less, firsts-zero, threshold}
+use Rattle.selection.proofs.Places.{firsts-step, count-held, all-ranked}
 use Rattle.selection.proofs.Least.{least-le, least-holds, least-first}
 
 more-order : (ts : List ℕ) (n : ℕ) → KeyOrder every (moreTurnover ts) n

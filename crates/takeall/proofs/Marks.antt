@@ -1,11 +1,11 @@
 -- The marks of an accepted call, as the code writes them: the q largest at the size that was found.
-use mathlib.Core.Path.{_≡_, refl, sym, ap, ap₂, _∙_}
-use mathlib.Core.Bool.{Bool, cond}
+use mathlib.Core.Path.{_≡_}
+use mathlib.Core.Bool.{cond}
 use mathlib.Core.List.{List, _++_}
 use Prim.Native.Nat.{ℕ}
 use lib.ListN.{length, drop}
 use Rattle.rules.specs.Selection.{listed, every}
-use Rattle.rules.specs.TakeAll.{TakeAllAnswer, taken, largest, takeAllSize, takeAllGroup, takeAllRefusal, takeAllMarks}
+use Rattle.rules.specs.TakeAll.{taken, largest, takeAllSize, takeAllGroup, takeAllRefusal, takeAllMarks}
 use Rattle.selection.proofs.Sums.{listed-length, count-every}
 
 pub taken-by : {q n x q′ n′ x′ : ℕ} → q ≡ q′ → n ≡ n′ → x ≡ x′ → taken q n x ≡ taken q′ n′ x′

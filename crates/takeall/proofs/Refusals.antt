@@ -1,20 +1,17 @@
 -- Refusals as `take_all` gives them: the number is never 0, so a refused verdict leaves the buffer whole and an accepted one does not.
-use mathlib.Core.Path.{_≡_, refl, sym, ap, _∙_}
-use mathlib.Core.Bool.{Bool, true, false}
-use mathlib.Core.List.{List, _++_}
-use Prim.Native.Nat.{ℕ, zero, suc, _≤_, _<_}
-use native.Mathlib.Omega.{arith}
-use lib.ListN.{length, drop}
+use mathlib.Core.Path.{_≡_, refl}
+use mathlib.Core.Bool.{false}
+use mathlib.Core.List.{List}
+use Prim.Native.Nat.{ℕ, suc, _≤_}
+use lib.ListN.{length}
 use lib.Dec.{ltb}
 use borrow.Author.Tests.{ltb-false}
-use Rattle.rules.specs.Tests.{refuse}
-use Rattle.rules.specs.Selection.{listed, every}
-use Rattle.rules.specs.TakeAll.{TakeAllAnswer, refused, taken, written, badCount, badTurnovers, badSize, takeAllSize, takeAllGroup, takeAllRefusal, takeAllAnswer, takeAllMarks}
+use Rattle.rules.specs.TakeAll.{refused, taken, written, badCount, badTurnovers, badSize, takeAllSize, takeAllGroup, takeAllRefusal, takeAllAnswer, takeAllMarks}
 use Rattle.refusals.specs.Number.{numberOf}
 use Rattle.refusals.specs.declared.Refusal.{Refusal}
 use Rattle.refusals.specs.declared.Refusal.the-variants.{FrameLists, UnitNumbers, Turnovers, RandomNumbers, PanelSize, ResultBuffer, OldPanel, NoStep, UnitLists, BaseWeights, Shares, StartIndex, Relatives, Sectors, StreamLength, UnknownCommand, CutShort, Place, State, FrameFull, LowWeight, WeightSum, FigureRange, ClosesSpent}
 use Rattle.frame.proofs.Refusals.{refuse-none}
-use Rattle.frame.proofs.Accepted.{Units, units}
+use Rattle.frame.proofs.Accepted.{units}
 use Rattle.takeall.specs.Group.{Sized}
 
 -- no refusal has the number 0

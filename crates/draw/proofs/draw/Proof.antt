@@ -1,13 +1,11 @@
 -- A refused verdict answers its number and leaves both buffers; an accepted one is what `draw_panel` asks for.
-use mathlib.Core.Path.{_≡_, refl, sym, ap, ap₂, _∙_, subst}
-use native.Mathlib.Omega.{arith}
+use mathlib.Core.Path.{_≡_, sym, ap, _∙_}
 use borrow.Author.Needs.{needs}
 use Prim.Native.Nat.{ℕ}
-use Rattle.rules.specs.TakeAll.{frame, takeAllGroup}
-use Rattle.rules.specs.Draw.{DrawAnswer, drawn, drawRefusal}
+use Rattle.rules.specs.TakeAll.{frame}
+use Rattle.rules.specs.Draw.{drawn, drawRefusal}
 use Rattle.refusals.specs.Number.{numberOf, verdictOf}
 use Rattle.draw.proofs.Refusals.{answer-refused, numbers-refused, weights-refused, answer-accepted}
-use borrow.Author.Needs.{needs}
 use Rattle.draw.proofs.draw.Statement.{statement}
 use Rattle.draw.proofs.draw.Tie as tie
 

@@ -1,20 +1,12 @@
 -- The facts of an accepted frame feed each step; what is written is then the definition's.
-use mathlib.Core.Path.{_≡_, refl, sym, ap, ap₂, _∙_, subst}
+use mathlib.Core.Path.{sym, _∙_}
 use native.Mathlib.Omega.{arith}
 use borrow.Author.Needs.{needs}
-use mathlib.Core.List.{List, _++_}
-use Prim.Native.Nat.{ℕ, _+_, _≤_, _<_}
-use lib.ListN.{length, getD}
-use Rattle.rules.specs.Limits.{mostPanel}
 use Rattle.rules.specs.TakeAll.{Frame, frame}
-use Rattle.rules.specs.Draw.{drawRefusal}
 use Rattle.frame.proofs.Accepted.{Accepted, accepted}
-use Rattle.takeall.specs.Group.{Sized, IsGroup}
-use Rattle.draw.specs.Sampling.{Ready}
-use Rattle.draw.specs.Panel.{Arrays}
+use Rattle.takeall.specs.Group.{Sized}
 use Rattle.draw.proofs.Refusals.{frame-accepted, room}
 use Rattle.draw.proofs.Accepted.{frame-sized, frame-ready, panel-arrays, panel-size, numbers-accepted, weights-accepted}
-use borrow.Author.Needs.{needs}
 use Rattle.draw.proofs.draw_panel.Statement.{statement}
 use Rattle.draw.proofs.draw_panel.Tie as tie
 

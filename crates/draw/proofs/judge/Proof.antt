@@ -1,14 +1,9 @@
 -- The frame's verdict first, then the two buffers.
-use mathlib.Core.Path.{_≡_, refl, sym, ap, ap₂, _∙_, subst}
-use native.Mathlib.Omega.{arith}
+use mathlib.Core.Path.{sym, ap, _∙_}
 use borrow.Author.Needs.{needs}
-use Prim.Native.Nat.{ℕ}
 use borrow.Author.Tests.{lt-ltb, le-ltb}
-use Rattle.rules.specs.TakeAll.{frame}
-use Rattle.rules.specs.Draw.{frameRefusal, drawRefusal}
 use Rattle.refusals.specs.Number.{verdictOf}
 use Rattle.draw.proofs.Refusals.{frame-first, short-panel, short-weights, none-short}
-use borrow.Author.Needs.{needs}
 use Rattle.draw.proofs.judge.Statement.{statement}
 use Rattle.draw.proofs.judge.Tie as tie
 

@@ -1,16 +1,15 @@
 -- The largest unit outside the q largest decides whether q fits (`fits-is`); where it does not, X falls by that unit's turnover (`rest-step`).
-use mathlib.Core.Path.{_≡_, refl, sym, ap, ap₂, _∙_, subst}
+use mathlib.Core.Path.{_≡_, refl, sym, ap, _∙_, subst}
 use native.Mathlib.Omega.{arith}
 use borrow.Author.Needs.{needs}
 use mathlib.Core.List.{List}
 use Prim.Native.Nat.{ℕ, _+_, _-_, _*_, _≤_, _<_}
-use native.Mathlib.Nat.{mul-le-mul, le-trans}
+use native.Mathlib.Nat.{mul-le-mul}
 use lib.ListN.{length, getD}
 use lib.Dec.{ltb}
 use borrow.Author.Tests.{lt-ltb, le-ltb}
 use Rattle.rules.specs.Limits.{mostTurnover, mostPanel}
-use Rattle.rules.specs.Lists.{sum}
-use Rattle.rules.specs.Selection.{sumOf, rank, every, leastFrom}
+use Rattle.rules.specs.Selection.{every, leastFrom}
 use Rattle.rules.specs.TakeAll.{turnover, larger, restWithout, fits, takeAllSize, restTurnover, takeAllGroup}
 use Rattle.selection.specs.Ranked.{Ranked}
 use Rattle.selection.proofs.Sums.{sum-has, sum-list}

@@ -1,12 +1,9 @@
 -- The tests in the order of the refusals; each answer rewrites the definition by the tests that were made.
-use mathlib.Core.Path.{_≡_, refl, sym, ap, ap₂, _∙_, subst}
-use native.Mathlib.Omega.{arith}
+use mathlib.Core.Path.{sym, _∙_}
 use borrow.Author.Needs.{needs}
-use Prim.Native.Nat.{ℕ}
 use borrow.Author.Tests.{lt-ltb, le-ltb}
 use Rattle.rules.specs.Tests.{refuse}
 use Rattle.rules.specs.TakeAll.{takeAllRefusal}
-use borrow.Author.Needs.{needs}
 use Rattle.takeall.proofs.judge.Statement.{statement}
 use Rattle.takeall.proofs.judge.Tie as tie
 

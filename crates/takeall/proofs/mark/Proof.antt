@@ -1,13 +1,13 @@
 -- After i turns the first i marks are written and the rest is as it was.
-use mathlib.Core.Path.{_≡_, refl, sym, ap, ap₂, _∙_, subst}
+use mathlib.Core.Path.{_≡_, refl, sym, ap, _∙_}
 use native.Mathlib.Omega.{arith}
 use borrow.Author.Needs.{needs}
 use mathlib.Core.Logic.{⊎-elim}
-use mathlib.Core.Bool.{Bool, true, false, cond}
+use mathlib.Core.Bool.{Bool, cond}
 use mathlib.Core.List.{List, _++_}
 use Prim.Native.Nat.{ℕ, _+_, _-_, _≤_, _<_}
 use lib.ListN.{length, drop, set, length-set}
-use Rattle.rules.specs.Selection.{count, sumOf, listed, every}
+use Rattle.rules.specs.Selection.{listed, every}
 use Rattle.rules.specs.TakeAll.{largest}
 use Rattle.selection.proofs.Sums.{list-store, count-every}
 use Rattle.takeall.proofs.mark.Statement.{statement}

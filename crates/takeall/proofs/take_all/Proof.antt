@@ -1,18 +1,10 @@
 -- A refused verdict answers its number and leaves the marks; an accepted one gives the facts that the inner functions ask for.
-use mathlib.Core.Path.{_≡_, refl, sym, ap, ap₂, _∙_, subst}
-use native.Mathlib.Omega.{arith}
+use mathlib.Core.Path.{_≡_, sym, ap, _∙_}
 use borrow.Author.Needs.{needs}
-use mathlib.Core.Bool.{cond}
-use mathlib.Core.List.{List, _++_}
-use Prim.Native.Nat.{ℕ, _≤_}
-use lib.ListN.{length, drop}
-use Rattle.rules.specs.Selection.{listed, every}
-use Rattle.rules.specs.TakeAll.{TakeAllAnswer, taken, largest, takeAllSize, takeAllGroup, takeAllRefusal, takeAllMarks}
+use Rattle.rules.specs.TakeAll.{takeAllRefusal}
 use Rattle.refusals.specs.Number.{verdictOf}
-use Rattle.takeall.specs.Group.{IsGroup}
 use Rattle.takeall.proofs.Refusals.{answer-refused, marks-refused, answer-accepted, sized, room}
 use Rattle.takeall.proofs.Marks.{taken-by, marks-accepted}
-use borrow.Author.Needs.{needs}
 use Rattle.takeall.proofs.take_all.Statement.{statement}
 use Rattle.takeall.proofs.take_all.Tie as tie
 

@@ -1,10 +1,9 @@
 -- The threshold law for the largest units: a unit is one of the q largest where their last does not come before it.
-use mathlib.Core.Path.{_≡_, refl, sym, ap, ap₂, _∙_, subst}
+use mathlib.Core.Path.{sym, ap, _∙_}
 use native.Mathlib.Omega.{arith}
-use borrow.Author.Needs.{needs}
 use mathlib.Core.Bool.{not}
 use Prim.Native.Nat.{ℕ, _<_}
-use Rattle.rules.specs.TakeAll.{larger, largest}
+use Rattle.rules.specs.TakeAll.{largest}
 use Rattle.selection.proofs.TakeAll.{largest-none, largest-by}
 use Rattle.takeall.proofs.takes_all.Statement.{statement}
 use Rattle.takeall.proofs.takes_all.Tie as tie

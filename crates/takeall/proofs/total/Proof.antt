@@ -1,11 +1,9 @@
 -- The sum by places (`sum-list`): a partial sum is at most the whole, which the contract bounds.
-use mathlib.Core.Path.{_≡_, refl, sym, ap, ap₂, _∙_, subst}
+use mathlib.Core.Path.{_≡_, refl, ap, _∙_}
 use native.Mathlib.Omega.{arith}
 use borrow.Author.Needs.{needs}
-use mathlib.Core.Bool.{cond}
-use Prim.Native.Nat.{ℕ, _+_, _-_, _≤_, _<_}
-use lib.ListN.{length, getD}
-use Rattle.rules.specs.Lists.{sum}
+use Prim.Native.Nat.{_+_, _-_, _≤_}
+use lib.ListN.{length}
 use Rattle.rules.specs.Selection.{sumOf, every}
 use Rattle.rules.specs.TakeAll.{turnover}
 use Rattle.selection.proofs.Sums.{sum-next, sum-grows, sum-list}

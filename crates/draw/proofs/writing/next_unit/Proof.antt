@@ -1,11 +1,9 @@
 -- The smallest so far, place by place (`Next`).
-use mathlib.Core.Path.{_≡_, refl, sym, ap, ap₂, _∙_, subst}
+use mathlib.Core.Path.{_≡_, sym, subst}
 use native.Mathlib.Omega.{arith}
 use borrow.Author.Needs.{needs}
 use mathlib.Core.Logic.{⊎-elim}
-use mathlib.Core.List.{List}
-use Prim.Native.Nat.{ℕ, _+_, _-_, _≤_, _<_}
-use lib.ListN.{length, getD}
+use Prim.Native.Nat.{ℕ, _+_, _-_, _≤_}
 use Rattle.draw.specs.Panel.{Next}
 use Rattle.draw.proofs.Next.{next-none, next-keep, next-take}
 use Rattle.draw.proofs.writing.next_unit.Statement.{statement}

@@ -1,14 +1,11 @@
 -- The three cases of W, by the code's two tests.
-use mathlib.Core.Path.{_≡_, refl, sym, ap, ap₂, _∙_, subst}
+use mathlib.Core.Path.{sym, _∙_}
 use native.Mathlib.Omega.{arith}
 use borrow.Author.Needs.{needs}
-use Prim.Native.Nat.{ℕ, _*_, _≤_, _<_}
 use native.Mathlib.Nat.{mul-le-mul}
-use lib.ListN.{getD}
 use borrow.Author.Tests.{eq-eqb, ne-eqb}
 use Rattle.rules.specs.Limits.{mostTurnover, mostPanel}
 use Rattle.rules.specs.TakeAll.{turnover, baseWeight}
-use borrow.Author.Needs.{needs}
 use Rattle.draw.proofs.writing.weight_of.Statement.{statement}
 use Rattle.draw.proofs.writing.weight_of.Tie as tie
 

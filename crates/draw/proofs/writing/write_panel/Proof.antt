@@ -1,17 +1,14 @@
 -- A turn writes the next unit of the panel (`next-stored`). Before it, the units below `from` are written: k of them.
-use mathlib.Core.Path.{_≡_, refl, sym, ap, ap₂, _∙_, subst}
+use mathlib.Core.Path.{_≡_, refl, sym, ap, ap₂, _∙_}
 use native.Mathlib.Omega.{arith}
-use borrow.Author.Needs.{needs}
 use mathlib.Core.List.{List, _++_}
 use Prim.Native.Nat.{ℕ, _+_, _-_, _≤_, _<_}
 use lib.ListN.{length, getD, set, drop, length-set}
-use Rattle.rules.specs.Selection.{count, sumOf, listed}
+use Rattle.rules.specs.Selection.{count, listed}
 use Rattle.rules.specs.TakeAll.{baseWeight}
-use Rattle.rules.specs.Draw.{drawnBy}
 use Rattle.selection.proofs.Sums.{count-zero}
 use Rattle.takeall.specs.Group.{rulesGroup}
-use Rattle.draw.specs.Sampling.{unnumbered}
-use Rattle.draw.proofs.Panel.{drawn, drawn-count, next-low, next-stored, next-counted, all-written}
+use Rattle.draw.proofs.Panel.{drawn, next-low, next-stored, next-counted, all-written}
 use Rattle.draw.proofs.writing.write_panel.Statement.{statement}
 use Rattle.draw.proofs.writing.write_panel.Tie as tie
 
