@@ -4,7 +4,7 @@
 
 For each change the reference table (crates/rules/proofs) is checked first, and if
 it still holds, the cases of test_definitions.py. A change that both accept is
-printed as SURVIVED; docs/WORKING.md says which of those are equal in meaning.
+printed as SURVIVED: either it is equal in meaning, or a case is missing.
 It is no part of the test command: it takes about half an hour.
 """
 

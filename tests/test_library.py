@@ -31,6 +31,36 @@ def compared(t, name, short, long, ours, theirs):
         t.check(met[number] > 0, f"{name}: refusal {number} (0: accepted) is met", repeat=dict(met))
 
 
+NUMBERS = [11, 12, 13, 14, 15]
+TURNOVERS = [70_000_000, 10_000_000, 8_000_000, 7_000_000, 5_000_000]
+RANDOMS = [300_000, 500_000, 200_000, 900_000, 100_000]
+
+
+def panel_of(numbers, turnovers, randoms, z, start):
+    """The library's panel and weights."""
+    room = [0] * z
+    answer, panel, weights = library.draw(numbers, turnovers, randoms, z, start, room, room)
+    return answer, panel, weights
+
+
+def test_reference_cases(t):
+    """K1 to K6, K9, K10 and K11 on the built code; K7 and K8 are the listing, which chainrun prints."""
+    expected = (frame.Drawn(2, 30_000_000), [11, 13, 15], [140_000_000, 30_000_000, 30_000_000])
+    t.check(panel_of(NUMBERS, TURNOVERS, RANDOMS, 3, 0) == expected, "K1")
+    t.check(panel_of(NUMBERS, TURNOVERS, RANDOMS[:4] + [220_000], 3, 0)[1] == [11, 12, 13], "K2")
+    t.check(library.take_all_entry([20, 10, 10], 2, [9] * 3) == (frame.Taken(1, 1, 20), [1, 0, 0]), "K3")
+    t.check(library.take_all_entry([19, 11, 10], 2, [9] * 3) == (frame.Taken(0, 2, 40), [0, 0, 0]), "K4")
+    t.check(panel_of([7], [5], [0], 1, 0) == (frame.Drawn(0, 0), [7], [5]), "K5")
+    answer, buffer = library.rotate(NUMBERS, TURNOVERS, RANDOMS, 3, 0, [13, 15], 500, [1, 2, 3])
+    t.check((answer, buffer) == (frame.Rotated(101, 101_000, 1), [15, 2, 3]), "K6")
+    t.check(panel_of(NUMBERS, TURNOVERS, RANDOMS, 3, 101_000)[1] == [11, 12, 13], "K6: the new panel")
+    t.check(panel_of([1, 2, 3], [10] * 3, [500_000] * 3, 1, 0)[1] == [1], "K9")
+    record = Record(1, [10**6] + [0] * 99, 10**9, 0)
+    t.check(library.quarter(record, [2_499])[1] == Refused(13), "K10: 2,499 is refused by 13")
+    t.check(library.quarter(record, [2_500])[1] == Figure(250_000_000), "K10: 2,500 is taken")
+    t.check(library.total([600_000, 400_000], [1_062_000_000, 10**9]) == chain.Total(1_037_200_000), "K11")
+
+
 def test_take_all(t):
     compared(t, "take_all_cases", 400, 20_000, lambda d: library.take_all_entry(**d), lambda d: frame.take_all_entry(**d))
 
@@ -126,7 +156,7 @@ def test_chains(t):
     """Whole chains: digit by digit, and every figure within the bound of demand 3 by exact fractions."""
     figures = 0
     longest = 0
-    for case in generate.chain_cases(t.seed, t.count(250, 5_000)):
+    for case in generate.chain_cases(t.seed, t.count(2_000, 20_000)):
         figures_here, closes = follow(t, case)
         figures += figures_here
         longest = max(longest, closes)
