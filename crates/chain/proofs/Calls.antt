@@ -16,7 +16,7 @@ use Rattle.rules.specs.Lists.{sum, products, anyPair}
 use Rattle.rules.specs.Chain.{Chain, held, badUnits, badIndex, badWeight, badRelative, broken, callRefusal, moved, answerBy, afterBy}
 use Rattle.weights.proofs.Tests.{or-false, within, passed, stops}
 use Rattle.weights.proofs.Lists.{products-bound, length-scaled}
-use Rattle.weights.proofs.Refusals.{number-is-suc, not-none}
+use Rattle.refusals.proofs.Numbers.{number-is-suc, not-none}
 use Rattle.chain.specs.Record.{answerFrom, Reckonable}
 use Rattle.chain.specs.declared.Answer.the-variants.{Figure, Refused}
 

@@ -14,7 +14,8 @@ use Rattle.refusals.specs.Number.{numberOf}
 use Rattle.refusals.specs.declared.Refusal.{Refusal}
 use Rattle.selection.proofs.Logic.{or-on, or-off, or-left, or-right}
 use Rattle.frame.proofs.Refusals.{refuse-none, goes, stops}
-use Rattle.takeall.proofs.Refusals.{number-some, written-refused}
+use Rattle.refusals.proofs.Numbers.{number-some}
+use Rattle.takeall.proofs.Refusals.{written-refused}
 
 frame-stops : (f : Frame) (z start : ℕ) (panel weights : List ℕ) → (frameRefusal f z start 0 ≡ 0 → ⊥) → drawRefusal f z start panel weights ≡ frameRefusal f z start 0
 unfolding drawRefusal

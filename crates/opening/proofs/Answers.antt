@@ -7,7 +7,7 @@ use Rattle.refusals.specs.Number.{numberOf}
 use Rattle.refusals.specs.declared.Refusal.{Refusal}
 use Rattle.rules.specs.Chain.{Chain, openBy}
 use Rattle.rules.specs.Chain as rules
-use Rattle.weights.proofs.Refusals.{number-is-suc}
+use Rattle.refusals.proofs.Numbers.{number-is-suc}
 use Rattle.opening.specs.Opened.{emptyRecord, recordBy}
 
 pub refused-answer : (n : ℕ) (c : Chain) (why : Refusal) → n ≡ numberOf why → rules.Opening.refused (numberOf why) ≡ openBy n c

@@ -16,7 +16,7 @@ use Rattle.rules.specs.Lists.{sum, products, scaled, anyOf, anyPair}
 use Rattle.rules.specs.Chain.{badUnits, badOpenLists, badBase, badShares, badIndex, badRelative, shared}
 use Rattle.weights.proofs.Tests.{or-false, passed, stops}
 use Rattle.weights.proofs.Lists.{products-bound}
-use Rattle.weights.proofs.Refusals.{not-none}
+use Rattle.refusals.proofs.Numbers.{not-none}
 use Rattle.chain.proofs.Calls.{units-most}
 use Rattle.opening.specs.Opened.{inputRefusal, Fillable}
 

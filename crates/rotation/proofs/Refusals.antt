@@ -18,7 +18,7 @@ use Rattle.frame.proofs.Lists.{or-false}
 use Rattle.frame.proofs.Refusals.{refuse-none, goes, stops}
 use Rattle.refusals.specs.declared.Refusal.{Refusal}
 use Rattle.refusals.specs.Number.{numberOf}
-use Rattle.takeall.proofs.Refusals.{number-some}
+use Rattle.refusals.proofs.Numbers.{number-some}
 use Rattle.rotation.specs.Judge.{oldRefusal, earlyRefusal}
 
 -- no refusal has the number 0

@@ -9,37 +9,10 @@ use borrow.Author.Tests.{ltb-false}
 use Rattle.rules.specs.TakeAll.{refused, taken, written, badCount, badTurnovers, badSize, takeAllSize, takeAllGroup, takeAllRefusal, takeAllAnswer, takeAllMarks}
 use Rattle.refusals.specs.Number.{numberOf}
 use Rattle.refusals.specs.declared.Refusal.{Refusal}
-use Rattle.refusals.specs.declared.Refusal.the-variants.{FrameLists, UnitNumbers, Turnovers, RandomNumbers, PanelSize, ResultBuffer, OldPanel, NoStep, UnitLists, BaseWeights, Shares, StartIndex, Relatives, Sectors, StreamLength, UnknownCommand, CutShort, Place, State, FrameFull, LowWeight, WeightSum, FigureRange, ClosesSpent}
+use Rattle.refusals.proofs.Numbers.{number-some}
 use Rattle.frame.proofs.Refusals.{refuse-none}
 use Rattle.frame.proofs.Accepted.{units}
 use Rattle.takeall.specs.Group.{Sized}
-
--- no refusal has the number 0
-pub number-some : (why : Refusal) → (n : ℕ) × (numberOf why ≡ suc n)
-number-some FrameLists = (0, refl)
-number-some UnitNumbers = (1, refl)
-number-some Turnovers = (2, refl)
-number-some RandomNumbers = (3, refl)
-number-some PanelSize = (4, refl)
-number-some ResultBuffer = (5, refl)
-number-some OldPanel = (6, refl)
-number-some NoStep = (7, refl)
-number-some UnitLists = (8, refl)
-number-some BaseWeights = (9, refl)
-number-some Shares = (10, refl)
-number-some StartIndex = (11, refl)
-number-some Relatives = (12, refl)
-number-some Sectors = (13, refl)
-number-some StreamLength = (14, refl)
-number-some UnknownCommand = (15, refl)
-number-some CutShort = (16, refl)
-number-some Place = (17, refl)
-number-some State = (18, refl)
-number-some FrameFull = (19, refl)
-number-some LowWeight = (20, refl)
-number-some WeightSum = (21, refl)
-number-some FigureRange = (22, refl)
-number-some ClosesSpent = (23, refl)
 
 -- what is written on a refusal: nothing
 pub written-refused : (why : Refusal) (number : ℕ) (news buffer : List ℕ) → number ≡ numberOf why → written number news buffer ≡ buffer
