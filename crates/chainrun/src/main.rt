@@ -2,20 +2,26 @@
 // until the end or the first refusal. What all turns print is the crate `run`, proofs/Whole.antt.
 use libc::STDIN_FILENO;
 use libc::STDOUT_FILENO;
+use run::TEXT_ROOM;
 ghost use mathlib.Core.Path.{_≡_};
+ghost use Prim.Native.Nat.{suc, _*_};
 ghost use lib.ListN.{length};
+ghost use Rattle.rules.specs.Limits.{mostStream, mostPanel};
+ghost use Rattle.lines.specs.Laid.{lineRoom};
 
-// The longest stream and one byte more, by which a longer one is known.
-fn stream_room() -> [u8; 32769]
-    ensures { λ r. ⌜ 32769 ≡ length r ⌝ }
+// The longest stream and one byte more, by which a longer one is known (`run`, proofs/Whole.antt, `cut`).
+const STREAM_ROOM: usize = 32769;
+
+fn stream_room() -> [u8; STREAM_ROOM]
+    ensures { λ r. ⌜ suc mostStream ≡ length r ⌝ }
 {
-    [0; 32769]
+    [0; STREAM_ROOM]
 }
 
-fn text_room() -> [u8; 4400]
-    ensures { λ r. ⌜ 4400 ≡ length r ⌝ }
+fn text_room() -> [u8; TEXT_ROOM]
+    ensures { λ r. ⌜ lineRoom * mostPanel ≡ length r ⌝ }
 {
-    [0; 4400]
+    [0; TEXT_ROOM]
 }
 
 // Does the commands of a stream in turn, one write for the text of each.

@@ -1,4 +1,5 @@
 pub mod Sampling
+pub mod Terms
 pub mod Next
 pub mod Joining
 pub mod Refusals

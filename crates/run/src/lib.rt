@@ -49,7 +49,7 @@ fn continues(stepped: Stepped) -> bool
 }
 
 // Lays the text of what a command says, and answers its bytes.
-fn lay(text: &mut [u8; 4400], stepped: Stepped, at: usize) -> usize
+fn lay(text: &mut [u8; TEXT_ROOM], stepped: Stepped, at: usize) -> usize
     ensures { λ r. ⌜ (r ≡ length (textOf (sayingFrom stepped) at)) × (now (text .exit) ≡ onto (textOf (sayingFrom stepped) at) (now (text .entry))) ⌝ }
 {
     let says = stepped.says;
@@ -69,7 +69,7 @@ fn lay(text: &mut [u8; 4400], stepped: Stepped, at: usize) -> usize
 }
 
 // One turn at the unread part s of a stream of total bytes.
-pub fn turn(total: usize, s: &[u8], job: Job, text: &mut [u8; 4400]) -> Turned
+pub fn turn(total: usize, s: &[u8], job: Job, text: &mut [u8; TEXT_ROOM]) -> Turned
     ensures { λ r. ⌜ Renders (turnOf total (now (s .entry)) (jobOf job)) r (now (text .entry)) (now (text .exit)) ⌝ }
 {
     let at = offset(total, s.len());
