@@ -543,8 +543,24 @@ def hundred_members(rng, f):
     return data
 
 
+def two_equal_units(rng, first_random, second_random):
+    """Two units of one size, the first the old panel of one, which must leave: the smaller shifted number is sampled."""
+    return {
+        "numbers": [5, 8],
+        "turnovers": [1_000, 1_000],
+        "randoms": [first_random, second_random],
+        "z": 1,
+        "old_start": 0,
+        "old_panel": [5],
+        "f": 1_000,
+        "out_leavers": junk(rng, 2, U32),
+    }
+
+
 def special_rotations(rng):
     """Old panels and starts of each kind, all accepted."""
+    yield "the last step, 999, is the first that suffices", two_equal_units(rng, 998_999, 999_999)
+    yield "the step before it", two_equal_units(rng, 997_999, 999_999)
     for old_start in (0, 500_000, 899_000, 950_000, 999_999):
         yield f"K6 from start {old_start}", frame_a(rng, old_start, [13, 15], 500)
     yield "an empty old panel", frame_a(rng, 0, [], 1_000)
@@ -562,6 +578,7 @@ def rotate_cases(rng, count):
     yield from limits_of(rotation_limits(rng))
     for what, data in special_rotations(rng):
         yield 0, what, data
+    yield 8, "equal keys at every start: the lower number never leaves", two_equal_units(rng, 400_000, 400_000)
     yield from faults_of(rng, a_sound_rotation, ROTATE_FAULTS)
     for _ in range(count):
         yield None, "random", a_rotation(rng)
