@@ -267,6 +267,10 @@ def limit_suite():
     panel = list(range(100))
     for old_panel in (panel, panel + [100]):
         yield from rotation_cases([1, 2], [5, 5], [0, 1], 1, 0, old_panel, 0, [0] * 101)
+    pair = ([5, 8], [1_000, 1_000], [100_000, 300_000])
+    for f in (0, 1, 999, 1_000, 1_001):
+        yield from rotation_cases(*pair, 1, 0, [5], f, [0])
+        yield from rotation_cases(*pair, 1, 0, [5], f, [])
 
 
 def full_frame_cases():
