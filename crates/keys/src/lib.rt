@@ -4,9 +4,11 @@ use fraction::Fraction;
 use frame::RANDOM_RANGE;
 ghost use mathlib.Core.Path.{_≡_};
 ghost use Prim.Native.Nat.{_-_, _*_, _<_, _≤_};
+ghost use lib.ListN.{length};
 ghost use Rattle.rules.specs.Limits.{mostTurnover, randomRange, mostPanel};
 ghost use Rattle.rules.specs.Draw.{shifted, keyNumerator, keyDenominator};
 ghost use Rattle.keys.specs.Terms.{termsOf};
+ghost use Rattle.keys.specs.Units.{Units, UnitKey};
 
 // A unit's random number as drawn, R: permanent, the same under every start.
 pub struct Permanent(pub u32);
@@ -59,4 +61,14 @@ pub fn key(turnover: u64, r: Shifted, rest: u64, size: u64) -> Fraction
 {
     let over = gap(turnover, rest, size);
     key_over(turnover, r, over)
+}
+
+// The key of unit i, of which the gap is known.
+pub fn unit_key(turnovers: &[u64], randoms: &[u32], gaps: &[u64], start: u32, i: usize) -> Fraction
+    requires { ⌜ Units (now turnovers) (now randoms) (now gaps) start × (i < length (now turnovers)) ⌝ }
+    ensures { λ f. ⌜ UnitKey (now (turnovers .entry)) (now (randoms .entry)) (now (gaps .entry)) start i f ⌝ }
+{
+    let random = Permanent(randoms[i]);
+    let shifted = random.shift(start);
+    key_over(turnovers[i], shifted, gaps[i])
 }
