@@ -13,8 +13,8 @@ use lib.Seq.{take-suc-set, take-take, take-at, getD-at, getD-take}
 use Rattle.rules.specs.Limits.{mostPanel}
 use Rattle.rules.specs.Tests.{_and_}
 use Rattle.rules.specs.Selection.{count, listed, sumOf, every}
-use Rattle.selection.proofs.Logic.{lt-or-ge}
 use Rattle.selection.proofs.Sums.{count-yes, count-not, listed-length, listed-not, listed-skip, count-skip}
+use Rattle.selection.proofs.Listed.{listed-low, listed-again, listed-same}
 use Rattle.members.specs.declared.Places.{Places}
 use Rattle.members.specs.Places.{Holding, PlacesOf}
 
@@ -61,25 +61,6 @@ hold-most mark f n r h =
     let many : length (listed mark f n) ≡ r .count = listed-length mark f n ∙ sym (h .many) in
     omega (arith, ap length (h .units), length-take (r .count) (r .places), h .room)
 
--- what is listed of the units below n is below n
-listed-low : (mark : ℕ → Bool) (n j : ℕ) → j < length (listed mark (λ i. i) n) → getD (listed mark (λ i. i) n) j 0 < n
-unfolding listed
-listed-low mark zero j h = absurd (not-suc-le-zero h)
-listed-low mark (suc n) j h = go (mark n) h (listed-low mark n j)
-  where
-    go : (b : Bool) → j < length (listed mark (λ i. i) n ++ cond b (n ∷ []) []) → (j < length (listed mark (λ i. i) n) → getD (listed mark (λ i. i) n) j 0 < n) → getD (listed mark (λ i. i) n ++ cond b (n ∷ []) []) j 0 < suc n
-    go true l rec =
-        ⊎-elim front back (lt-or-ge j (length (listed mark (λ i. i) n)))
-      where
-        front : j < length (listed mark (λ i. i) n) → getD (listed mark (λ i. i) n ++ (n ∷ [])) j 0 < suc n
-        front k = rw (List·getD-append (listed mark (λ i. i) n) (n ∷ []) 0 j k) (omega (arith, rec k))
-
-        back : length (listed mark (λ i. i) n) ≤ j → getD (listed mark (λ i. i) n ++ (n ∷ [])) j 0 < suc n
-        back k =
-            let e : length (listed mark (λ i. i) n) ≡ j = omega (arith, simp length-append at l) in
-            rw (getD-at (listed mark (λ i. i) n) n [] 0 j e) (omega arith)
-    go false l rec = rw append-nil (omega (arith, rec (rw append-nil at l)))
-
 -- each place that is held is one of the frame
 pub place-low : (mark : ℕ → Bool) (n : ℕ) (r : Places) → PlacesOf mark n r → (j : ℕ) → j < r .count → getD (r .places) j 0 < n
 place-low mark n r h j l =
@@ -87,26 +68,6 @@ place-low mark n r h j l =
     (listed-low mark n j (omega (arith, listed-length mark (λ i. i) n, h .many)))
 
 -- ---- the second look
--- one more place, and the places before it
-last-unit : (xs ps : List ℕ) (n k : ℕ) → length xs ≡ k → take (suc k) ps ≡ xs ++ (n ∷ []) → (take k ps ≡ xs) × (getD ps k 0 ≡ n)
-last-unit xs ps n k l e = (
-  sym (take-take k (suc k) ps (omega arith)) ∙ ap (take k) e ∙ take-at xs (n ∷ []) k l,
-  sym (getD-take (suc k) ps k 0 (omega arith)) ∙ ap (λ (ys : List ℕ). getD ys k 0) e ∙ getD-at xs n [] 0 k l,
-)
-
-listed-again : (first second : ℕ → Bool) (f : ℕ → ℕ) (n : ℕ) (ps : List ℕ) → take (count first n) ps ≡ listed first (λ i. i) n → listed (λ j. second (getD ps j 0)) (λ j. f (getD ps j 0)) (count first n) ≡ listed (λ i. first i and second i) f n
-unfolding listed count sumOf _and_
-listed-again first second f zero ps h = refl
-listed-again first second f (suc n) ps h = go (first n) h (listed-again first second f n ps)
-  where
-    go : (b : Bool) → take (count first n + cond b 1 0) ps ≡ listed first (λ i. i) n ++ cond b (n ∷ []) [] → (take (count first n) ps ≡ listed first (λ i. i) n → listed (λ j. second (getD ps j 0)) (λ j. f (getD ps j 0)) (count first n) ≡ listed (λ i. first i and second i) f n) → listed (λ j. second (getD ps j 0)) (λ j. f (getD ps j 0)) (count first n + cond b 1 0) ≡ listed (λ i. first i and second i) f n ++ cond (b and second n) (f n ∷ []) []
-    go true t rec =
-        let both = last-unit (listed first (λ i. i) n) ps n (count first n) (listed-length first (λ i. i) n) (rw (add-one (count first n)) at t) in
-        rw (add-one (count first n), both .1) (ap (λ (xs : List ℕ). xs ++ cond (second n) (f n ∷ []) []) (rec (both .0)))
-    go false t rec =
-        let same : count first n + 0 ≡ count first n = omega arith in
-        rw (same, append-nil) (rec (rw (same, append-nil) at t))
-
 -- THE HELD UNITS ALONE: of the units with the first mark, held as a list of places, those with the second are listed as a look at the
 -- whole frame for both marks would list them, and are as many
 module _ (first second : ℕ → Bool) (n : ℕ) (r : Places) (h : PlacesOf first n r) where
@@ -128,12 +89,6 @@ module _ (first second : ℕ → Bool) (n : ℕ) (r : Places) (h : PlacesOf firs
     many = g .many ∙ count-held;
     units = g .units ∙ listed-held (λ i. i);
   }
-
--- ---- what is listed of the held units
-listed-same : (p q : ℕ → Bool) (f : ℕ → ℕ) (n : ℕ) → ((i : ℕ) → p i ≡ q i) → listed p f n ≡ listed q f n
-unfolding listed
-listed-same p q f zero h = refl
-listed-same p q f (suc n) h = rw (h n, listed-same p q f n h)
 
 -- f of the held units, in the order of their places, is f of the marked units of the frame
 pub listed-all : (mark : ℕ → Bool) (f : ℕ → ℕ) (n : ℕ) (r : Places) → PlacesOf mark n r → listed every (λ j. f (getD (r .places) j 0)) (r .count) ≡ listed mark f n

@@ -5,3 +5,5 @@ pub mod Places
 pub mod Least
 pub mod TakeAll
 pub mod Panel
+pub mod Listed
+pub mod Segment

@@ -1,0 +1,4 @@
+pub mod Terms
+pub mod Listing
+pub mod Bounded
+pub mod Searched
