@@ -3,7 +3,8 @@
  *
  * Lists are lent for the length of a call: a pointer and a count of elements. A call reads its input lists and writes only
  * what is said below. Every function takes any list and any number. It answers a result, with `refusal` 0, or one refusal
- * number of document 01, with every other field of the answer 0; after a refusal every lent list is as it was.
+ * number of document 01, with every other field of the answer 0 (but the length that a run answers); after a refusal every
+ * lent list is as it was.
  * A null pointer is allowed where the count is 0. Lists that are lent to be written may not overlap other lists of the call.
  */
 #ifndef VOUGECRESS_H
@@ -114,6 +115,35 @@ struct vougecress_rotated vougecress_rotate(const uint32_t *numbers, size_t numb
 /* ---- Total ("Total"): shares in millionths that add to 1,000,000, and an index a sector. Refusal 14. */
 struct vougecress_figure vougecress_total(const uint32_t *shares, size_t shares_count,
                                           const uint64_t *indices, size_t indices_count);
+
+/* ---- Job stream ("Job stream"): commands of one byte and their big-endian operands, at most 32,768 bytes. */
+struct vougecress_reading {
+    uint32_t refusal;
+    uint32_t command; /* 1 unit, 2 draw, 3 share, 4 relative, 5 open, 6 quarter, 7 close; 0: the stream has ended */
+    uint64_t taken;   /* bytes of the command; 0 at the end */
+    uint64_t first;   /* the operands in the order of the stream, absent ones 0: number, size, place or start index */
+    uint64_t second;  /* turnover, start, share or relative */
+    uint64_t third;   /* random number */
+};
+
+struct vougecress_printed {
+    uint32_t refusal;
+    uint64_t length; /* bytes of the whole text, after a refusal too */
+};
+
+/*
+ * The command at the front of `stream`; the next begins `taken` bytes further on. Writes nothing. With nothing left it
+ * answers command 0, which is no refusal. Refusals 15, 16, 17.
+ */
+struct vougecress_reading vougecress_read(const uint8_t *stream, size_t stream_count);
+
+/*
+ * Does a whole stream and writes what the program chainrun prints for it into the first `length` places of `out`; places
+ * beyond stay, and no zero byte is added. What the stream itself is refused by is a line of the text (`R number offset`) and
+ * no refusal of the call. Refusal 6: `out` is shorter than the text. Then `out` is as it was, and `length` says how many
+ * places the text takes, so that a first call with an empty buffer asks for the length.
+ */
+struct vougecress_printed vougecress_run(const uint8_t *stream, size_t stream_count, uint8_t *out, size_t out_count);
 
 #ifdef __cplusplus
 }

@@ -14,6 +14,7 @@ from pathlib import Path
 from independent import Refused
 from independent.chain import Figure, Record, Total
 from independent.frame import Drawn, Rotated, Taken
+from independent.stream import END
 
 TOP = Path(__file__).resolve().parent.parent
 PLACES = 100
@@ -29,6 +30,10 @@ FigureAnswer = answer_type(("figure", c_uint64))
 TakenAnswer = answer_type(("q", c_uint64), ("n", c_uint64), ("rest", c_uint64))
 DrawnAnswer = answer_type(("n", c_uint64), ("rest", c_uint64))
 RotatedAnswer = answer_type(("k", c_uint32), ("start", c_uint32), ("count", c_uint64))
+ReadAnswer = answer_type(
+    ("command", c_uint32), ("taken", c_uint64), ("first", c_uint64), ("second", c_uint64), ("third", c_uint64)
+)
+RunAnswer = answer_type(("length", c_uint64))
 
 # name -> answer type and parameter types; a list is a pointer and a count
 SIGNATURES = {
@@ -39,8 +44,10 @@ SIGNATURES = {
     "vougecress_take_all": (TakenAnswer, ("u64s", c_size_t, "u8s")),
     "vougecress_draw": (DrawnAnswer, ("u32s", "u64s", "u32s", c_size_t, c_uint32, "u32s", "u64s")),
     "vougecress_rotate": (RotatedAnswer, ("u32s", "u64s", "u32s", c_size_t, c_uint32, "u32s", c_uint32, "u32s")),
+    "vougecress_read": (ReadAnswer, ("octets",)),
+    "vougecress_run": (RunAnswer, ("octets", "octets")),
 }
-ELEMENTS = {"u8s": c_uint8, "u32s": c_uint32, "u64s": c_uint64}
+ELEMENTS = {"u8s": c_uint8, "u32s": c_uint32, "u64s": c_uint64, "octets": c_uint8}
 
 
 @cache
@@ -62,19 +69,25 @@ def spread(parameter):
     return [parameter]
 
 
+def lent(parameter, argument):
+    """A C array with a copy of a list, or of bytes."""
+    array = ELEMENTS[parameter] * len(argument)
+    return array.from_buffer_copy(argument) if parameter == "octets" else array(*argument)
+
+
 def call(name, *arguments):
     """The answer, and every list as it is after the call, in the order of the parameters."""
     _, parameters = SIGNATURES[name]
     passed, lists = [], []
     for parameter, argument in zip(parameters, arguments, strict=True):
         if parameter in ELEMENTS:
-            array = (ELEMENTS[parameter] * len(argument))(*argument)
-            lists.append(array)
+            array = lent(parameter, argument)
+            lists.append((array, bytes if parameter == "octets" else list))
             passed += [array, len(argument)]
         else:
             passed.append(argument)
     answer = getattr(built(), name)(*passed)
-    return answer, [list(array) for array in lists]
+    return answer, [kind(array) for array, kind in lists]
 
 
 def refusal_of(answer):
@@ -89,7 +102,7 @@ def refusal_of(answer):
 
 def unchanged(lists, arguments):
     """Raise if a list that is only read was written."""
-    if any(after != list(before) for after, before in zip(lists, arguments)):
+    if any(after != type(after)(before) for after, before in zip(lists, arguments)):
         raise AssertionError("a list that was lent to be read is changed")
 
 
@@ -159,3 +172,38 @@ def rotate(numbers, turnovers, randoms, z, old_start, old_panel, f, out_leavers)
     )
     unchanged(read, (numbers, turnovers, randoms, old_panel))
     return refusal_of(answer) or Rotated(answer.k, answer.start, answer.count), leavers
+
+
+# Job stream
+
+# Command of an answer -> its name and how many operands it has.
+READ = {
+    0: (*END, 0),
+    1: ("unit", 3),
+    2: ("draw", 2),
+    3: ("share", 2),
+    4: ("relative", 2),
+    5: ("open", 1),
+    6: ("quarter", 0),
+    7: ("close", 0),
+}
+
+
+def read_command(part):
+    """The command at the front of a part, and the rest after the bytes that it takes."""
+    answer, lists = call("vougecress_read", part)
+    unchanged(lists, [part])
+    if answer.refusal:
+        return refusal_of(answer), part
+    name, count = READ[answer.command]
+    operands = (answer.first, answer.second, answer.third)
+    if any(operands[count:]) or answer.taken > len(part):
+        return ("an absent operand that is not 0, or more taken than there is", name, operands, answer.taken), part
+    return (name, *operands[:count]), part[answer.taken :]
+
+
+def run(stream, out):
+    """The refusal's number (0: none), the bytes of the whole text, and the buffer afterwards."""
+    answer, (read, after) = call("vougecress_run", stream, out)
+    unchanged([read], [stream])
+    return answer.refusal, answer.length, after

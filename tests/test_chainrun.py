@@ -1,10 +1,11 @@
-"""The built program chainrun against the independent computation: what it prints for a stream, byte for byte."""
+"""The built program chainrun, and the library's run of a stream, against the independent computation, byte for byte."""
 
 import subprocess
 from collections import Counter
 from pathlib import Path
 
 import generate
+import library
 from independent import stream
 
 TOP = Path(__file__).resolve().parent.parent
@@ -12,6 +13,9 @@ CHAINRUN = TOP / "target" / "bin" / "chainrun"
 
 # 6, 7, 8, 9, 10 and 14 cannot occur in a stream (docs/DECISIONS.md, "What cannot be refused in a stream").
 REFUSALS = {1, 2, 3, 4, 5, 11, 12, 13, 15, 16, 17, 18, 19, 20, 21, 22, 23, 24}
+
+
+FILL = b"\xa5"  # in no text
 
 
 def printed(octets):
@@ -28,7 +32,19 @@ def built(t):
 def compare(t, octets, case):
     expected = stream.run(octets)
     t.check(printed(octets) == expected, "chainrun prints what the independent computation prints", repeat=case)
+    compare_run(t, octets, expected, case)
     return expected
+
+
+def compare_run(t, octets, expected, case):
+    """The library's text: in a buffer that just fits, in a longer one, and not at all in one that is a byte short."""
+    length = len(expected)
+    for beyond in (0, 3):
+        after = library.run(octets, FILL * (length + beyond))
+        t.check(after == (0, length, expected + FILL * beyond), f"the library's run, {beyond} places beyond", repeat=case)
+    if expected:
+        after = library.run(octets, FILL * (length - 1))
+        t.check(after == (6, length, FILL * (length - 1)), "the library's run, a byte short", repeat=case)
 
 
 def last_refusal(output):

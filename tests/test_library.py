@@ -4,7 +4,7 @@ from collections import Counter
 
 import generate
 import library
-from independent import Refused, chain, frame
+from independent import Refused, chain, frame, stream
 from independent.chain import Direct, Figure, Record, within_bound
 
 # Refusals that each entry has; each must be met many times.
@@ -183,3 +183,46 @@ def follow(t, case):
             if name == "close":
                 exact.closed(p)
     return figures, theirs.closes
+
+
+def what_is_read(command):
+    """The refusal's number, or the command's name."""
+    return command.number if isinstance(command, Refused) else command[0]
+
+
+def test_read(t):
+    """Every kind of command whole and cut at each length, unknown bytes, the end, and both sides of 32,768 bytes."""
+    met = Counter()
+    for case in generate.reader_cases(t.seed, t.count(3_000, 30_000)):
+        part = case.data["part"]
+        expected = stream.read_command(part)
+        met[what_is_read(expected[0])] += 1
+        t.check(library.read_command(part) == expected, "read: as the independent computation", repeat=case)
+    for what in (15, 16, 17, *(name for name, _ in library.READ.values())):
+        t.check(met[what] > 0, f"read: {what} is met", repeat=dict(met))
+
+
+def test_read_streams(t):
+    """Each command of whole streams, the next from where the one before says that it ends."""
+    commands = 0
+    for case in generate.stream_cases(t.seed, t.count(30, 1_500)):
+        rest, going = case.data["stream"], True
+        while going:
+            expected = stream.read_command(rest)
+            told = library.read_command(rest)
+            t.check(told == expected, "read: each command of a stream", repeat=case)
+            going = told == expected and len(told[1]) < len(rest)
+            rest = told[1]
+            commands += 1
+    t.check(commands > 10_000, "many commands were read", repeat=commands)
+
+
+def test_nothing_lent(t):
+    """A null pointer where the count is 0: the stream has ended, and prints nothing; a buffer of no places takes no text."""
+    read = library.built().vougecress_read(None, 0)
+    fields = [getattr(read, name) for name, _ in read._fields_]
+    t.check(fields == [0] * 6, "reading nothing answers that the stream has ended", repeat=fields)
+    ran = library.built().vougecress_run(None, 0, None, 0)
+    t.check((ran.refusal, ran.length) == (0, 0), "running nothing prints nothing")
+    expected = stream.run(generate.LISTING)
+    t.check(library.run(generate.LISTING, b"") == (6, len(expected), b""), "an empty buffer is refused by 6 with the length")

@@ -1,5 +1,5 @@
 -- What a draw that is not refused knows: the facts that the inner functions ask for, and its two buffers in the words of the code.
-use mathlib.Core.Path.{_≡_, sym, ap, _∙_}
+use mathlib.Core.Path.{_≡_, sym, ap, _∙_, subst}
 use mathlib.Core.Bool.{Bool}
 use mathlib.Core.List.{List, _++_}
 use Prim.Native.Nat.{ℕ, _+_, _-_, _≤_, _<_}
@@ -19,7 +19,7 @@ use Rattle.takeall.specs.declared.Group.{Group}
 use Rattle.takeall.specs.Group.{Sized, IsGroup, rulesGroup}
 use Rattle.draw.specs.Sampling.{outside, keyOrder, Ready}
 use Rattle.draw.specs.Panel.{Arrays}
-use Rattle.draw.proofs.Panel.{drawn, drawn-any, drawn-count}
+use Rattle.draw.proofs.Panel.{drawn, drawn-any}
 
 -- ---- the group
 pub size-is : (ts : List ℕ) (z : ℕ) (g : Group) → IsGroup ts z g → g .n ≡ z - takeAllSize ts z
@@ -49,6 +49,12 @@ outside-enough ts z g l k = rw (k .size) (omega (arith, size-is ts z g k, size-l
 pub frame-sized : (f : Frame) (z start : ℕ) → Accepted f z start → Sized (f .turnovers) z
 frame-sized f z start ok = record { some = ok .units .sizeSome; most = ok .units .sizeFew; within = ok .units .sizeWithin; total = ok .units .total }
 
+-- the group with the size that it has itself: what filling in the gaps asks for
+pub own-size : (ts : List ℕ) (z : ℕ) (g : Group) → Sized ts z → IsGroup ts z g → Sized ts (g .q + g .n) × IsGroup ts (g .q + g .n) g
+own-size ts z g w k =
+    let e = sym (panel-size ts z g k) in
+    (subst (λ (n : ℕ). Sized ts n) e w, subst (λ (n : ℕ). IsGroup ts n g) e k)
+
 -- A frame accepted with any start is ready for every other: a rotation judges it once.
 pub frame-ready : (f : Frame) (z judged start : ℕ) (g : Group) → Accepted f z judged → IsGroup (f .turnovers) z g → start < randomRange → Ready (f .turnovers) (f .randoms) g start
 frame-ready f z judged start g ok k low = record {
@@ -60,6 +66,7 @@ frame-ready f z judged start g ok k low = record {
   rest-low = omega (arith, rest-of (f .turnovers) z g k, rest-le (f .turnovers) z, ok .units .total);
   size-low = omega (arith, size-is (f .turnovers) z g k, ok .units .sizeFew);
   enough = outside-enough (f .turnovers) z g (ok .units .sizeWithin) k;
+  few = omega (arith, panel-size (f .turnovers) z g k, ok .units .sizeWithin);
   group-last = k .last-is;
 }
 
@@ -76,9 +83,9 @@ panel-arrays ts rs z start g large sampled w k l s = record {
 written-all : (number : ℕ) (news buffer : List ℕ) (size : ℕ) → number ≡ 0 → length news ≡ size → written number news buffer ≡ news ++ drop size buffer
 written-all number news buffer size e l = rw (e, l)
 
-module _ (ns ts rs : List ℕ) (z start : ℕ) (panel weights : List ℕ) (g : Group) (e : drawRefusal (frame ns ts rs) z start panel weights ≡ 0) (k : IsGroup ts z g) (large sampled : List ℕ) (ok : Ready ts rs g start) (w : Arrays ts rs g start large sampled) where
+module _ (ns ts rs : List ℕ) (z start : ℕ) (panel weights : List ℕ) (g : Group) (e : drawRefusal (frame ns ts rs) z start panel weights ≡ 0) (k : IsGroup ts z g) (many : count (drawn ts rs g start) (length ts) ≡ g .q + g .n) where
   long : (f : ℕ → ℕ) → length (listed (drawn ts rs g start) f (length ts)) ≡ g .q + g .n
-  long f = listed-length (drawn ts rs g start) f (length ts) ∙ drawn-count ts rs g start large sampled ok w
+  long f = listed-length (drawn ts rs g start) f (length ts) ∙ many
 
   numbers-are : panelNumbers (frame ns ts rs) (takeAllGroup ts z) start ≡ listed (drawn ts rs g start) (λ i. getD ns i 0) (length ts)
   unfolding panelNumbers

@@ -1,4 +1,5 @@
 pub mod Sampling
+pub mod ByGaps
 pub mod Terms
 pub mod Next
 pub mod Joining
@@ -6,3 +7,4 @@ pub mod Refusals
 pub mod Panel
 pub mod Accepted
 pub mod Intended
+pub mod Short

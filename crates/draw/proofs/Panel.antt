@@ -27,7 +27,7 @@ use Rattle.draw.proofs.Sampling.{key-is-order, sampled-is}
 abbrev pub drawn : List ℕ → List ℕ → Group → ℕ → ℕ → Bool
 drawn ts rs g start = drawnBy (unnumbered ts rs) (rulesGroup ts g) start
 
-drawn-is : (ts rs : List ℕ) (g : Group) (start i : ℕ) → drawn ts rs g start i ≡ (largest ts (g .q) i or firsts (outside ts g) (keyOrder ts rs g start) (length ts) (g .n) i)
+pub drawn-is : (ts rs : List ℕ) (g : Group) (start i : ℕ) → drawn ts rs g start i ≡ (largest ts (g .q) i or firsts (outside ts g) (keyOrder ts rs g start) (length ts) (g .n) i)
 unfolding drawnBy
 drawn-is ts rs g start i = ap (λ (b : Bool). largest ts (g .q) i or b) (sampled-is ts rs g start _ i)
 

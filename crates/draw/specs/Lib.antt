@@ -1,3 +1,5 @@
 pub mod Sampling
+pub mod Gaps
 pub mod Panel
 pub mod Answer
+pub mod Telling

@@ -1,17 +1,24 @@
 // The draw (document 01, "Frame and weights" and "Draw"; 001, section 2.3 and formulas 21 and 22): a panel of z units of a frame, under a start.
+pub mod gaps;
 pub mod ranking;
+pub mod told;
 pub mod writing;
 
+use frame::MOST_FRAME;
 use refusals::Refusal;
 use refusals::Verdict;
 use takeall::Group;
 ghost use mathlib.Core.Path.{_≡_};
-ghost use Prim.Native.Nat.{_≤_};
-ghost use lib.ListN.{length};
-ghost use Rattle.rules.specs.TakeAll.{frame};
-ghost use Rattle.rules.specs.Draw.{frameRefusal, drawRefusal, drawAnswer, drawNumbers, drawWeights};
+ghost use mathlib.Core.List.{_++_};
+ghost use Prim.Native.Nat.{_+_, _≤_};
+ghost use lib.ListN.{length, getD, drop};
+ghost use Rattle.rules.specs.Selection.{count, listed};
+ghost use Rattle.rules.specs.TakeAll.{frame, baseWeight};
+ghost use Rattle.rules.specs.Draw.{drawnBy, frameRefusal, drawRefusal, drawAnswer, drawNumbers, drawWeights};
 ghost use Rattle.refusals.specs.Number.{verdictOf};
-ghost use Rattle.takeall.specs.Group.{IsGroup};
+ghost use Rattle.takeall.specs.Group.{Sized, IsGroup, rulesGroup};
+ghost use Rattle.draw.specs.Sampling.{unnumbered, Ready};
+ghost use Rattle.draw.specs.Gaps.{Gaps};
 ghost use Rattle.draw.specs.Answer.{answerOf};
 
 pub enum Answer {
@@ -46,6 +53,38 @@ fn judge(
     }
 }
 
+// Writes the panel by putting the units in order: where no short list decides.
+fn write_ordered(
+    numbers: &[u32],
+    turnovers: &[u64],
+    randoms: &[u32],
+    gaps: &[u64],
+    g: Group,
+    start: u32,
+    panel: &mut [u32],
+    weights: &mut [u64],
+)
+    requires { ⌜ Ready (now turnovers) (now randoms) g start × Gaps (now turnovers) g (now gaps) × Sized (now turnovers) (g .q + g .n) ⌝ }
+    requires { ⌜ (length (now numbers) ≡ length (now turnovers)) × (g .q + g .n ≤ length (now panel)) × (g .q + g .n ≤ length (now weights)) ⌝ }
+    ensures { λ _. ⌜ now (panel .exit) ≡ listed (drawnBy (unnumbered (now (turnovers .entry)) (now (randoms .entry))) (rulesGroup (now (turnovers .entry)) g) start) (λ i. getD (now (numbers .entry)) i 0) (length (now (turnovers .entry))) ++ drop (g .q + g .n) (now (panel .entry)) ⌝ }
+    ensures { λ _. ⌜ now (weights .exit) ≡ listed (drawnBy (unnumbered (now (turnovers .entry)) (now (randoms .entry))) (rulesGroup (now (turnovers .entry)) g) start) (baseWeight (now (turnovers .entry)) (rulesGroup (now (turnovers .entry)) g)) (length (now (turnovers .entry))) ++ drop (g .q + g .n) (now (weights .entry)) ⌝ }
+    ensures { λ _. ⌜ count (drawnBy (unnumbered (now (turnovers .entry)) (now (randoms .entry))) (rulesGroup (now (turnovers .entry)) g) start) (length (now (turnovers .entry))) ≡ g .q + g .n ⌝ }
+{
+    let largest = takeall::largest::largest_units(turnovers, g.q + g.n);
+    let sampled = ranking::sampled_units(turnovers, randoms, gaps, g, start);
+    writing::write_panel(
+        numbers,
+        turnovers,
+        randoms,
+        g,
+        start,
+        &largest,
+        &sampled,
+        panel,
+        weights,
+    );
+}
+
 // Draws the panel of a frame that no refusal stops, and answers the take-all group that it was drawn with.
 fn draw_panel(
     numbers: &[u32],
@@ -61,20 +100,16 @@ fn draw_panel(
     ensures { λ _. ⌜ now (panel .exit) ≡ drawNumbers (frame (now (numbers .entry)) (now (turnovers .entry)) (now (randoms .entry))) z start (now (panel .entry)) (now (weights .entry)) ⌝ }
     ensures { λ _. ⌜ now (weights .exit) ≡ drawWeights (frame (now (numbers .entry)) (now (turnovers .entry)) (now (randoms .entry))) z start (now (panel .entry)) (now (weights .entry)) ⌝ }
 {
-    let largest = takeall::largest::largest_units(turnovers, z);
-    let g = takeall::group_from(turnovers, z, &largest);
-    let sampled = ranking::sampled_units(turnovers, randoms, g, start);
-    writing::write_panel(
-        numbers,
-        turnovers,
-        randoms,
-        g,
-        start,
-        &largest,
-        &sampled,
-        panel,
-        weights,
-    );
+    let g = takeall::find_group(turnovers, z);
+    let mut gaps = [0u64; MOST_FRAME];
+    gaps::fill(turnovers, g, &mut gaps);
+    let reach = shortlist::reach_of(g.n as u64);
+    let found = shortlist::find(turnovers, randoms, &gaps, start, reach, z);
+    if found.sure {
+        writing::write_found(numbers, turnovers, randoms, g, start, found, panel, weights);
+        return g;
+    }
+    write_ordered(numbers, turnovers, randoms, &gaps, g, start, panel, weights);
     g
 }
 

@@ -1,5 +1,6 @@
 // The panel written out (document 01, "Draw"): unit numbers in rising order with their W, from the arrays of the take-all units and of the sampled ones.
 // Each step takes the next higher unit of the two, so that the frame itself is not gone through again.
+use shortlist::Found;
 use takeall::Group;
 ghost use mathlib.Core.Path.{_≡_};
 ghost use mathlib.Core.List.{_++_};
@@ -11,6 +12,7 @@ ghost use Rattle.rules.specs.Draw.{drawnBy};
 ghost use Rattle.selection.specs.Ranked.{Ranked};
 ghost use Rattle.takeall.specs.Group.{rulesGroup};
 ghost use Rattle.draw.specs.Sampling.{unnumbered, outside, keyOrder, Ready};
+ghost use Rattle.shortlist.specs.Bound.{passing, Passing};
 ghost use Rattle.draw.specs.Panel.{Next, Arrays};
 
 // The smallest of the first len units that is `from` or higher, or `end` where none such is below it.
@@ -73,5 +75,38 @@ pub fn write_panel(
         weights[k] = weight_of(turnovers, randoms, g, start, i);
         from = i + 1;
         k += 1;
+    }
+}
+
+// Writes the panel from what a short list found: the listed units within its bound are the panel, and they stand in the order of their numbers.
+pub fn write_found(
+    numbers: &[u32],
+    turnovers: &[u64],
+    randoms: &[u32],
+    g: Group,
+    start: u32,
+    found: Found,
+    panel: &mut [u32],
+    weights: &mut [u64],
+)
+    requires { ⌜ Ready (now turnovers) (now randoms) g start × Passing (length (now turnovers)) found (g .q + g .n) ⌝ }
+    requires { ⌜ (length (now numbers) ≡ length (now turnovers)) × (g .q + g .n ≤ length (now panel)) × (g .q + g .n ≤ length (now weights)) ⌝ }
+    ensures { λ _. ⌜ now (panel .exit) ≡ listed (passing found) (λ j. getD (now (numbers .entry)) (getD (found .units) j 0) 0) (found .count) ++ drop (g .q + g .n) (now (panel .entry)) ⌝ }
+    ensures { λ _. ⌜ now (weights .exit) ≡ listed (passing found) (λ j. baseWeight (now (turnovers .entry)) (rulesGroup (now (turnovers .entry)) g) (getD (found .units) j 0)) (found .count) ++ drop (g .q + g .n) (now (weights .entry)) ⌝ }
+{
+    let units = found.units;
+    let parts = found.parts;
+    let bound = found.bound;
+    let many = found.count;
+    let mut k: usize = 0;
+    let mut j: usize = 0;
+    while j < many {
+        let i = units[j];
+        if shortlist::is_passed(bound, parts[j], i) {
+            panel[k] = numbers[i];
+            weights[k] = weight_of(turnovers, randoms, g, start, i);
+            k += 1;
+        }
+        j += 1;
     }
 }

@@ -93,7 +93,7 @@ module _ (first second : ℕ → Bool) (n : ℕ) (r : Places) (h : PlacesOf firs
 -- f of the held units, in the order of their places, is f of the marked units of the frame
 pub listed-all : (mark : ℕ → Bool) (f : ℕ → ℕ) (n : ℕ) (r : Places) → PlacesOf mark n r → listed every (λ j. f (getD (r .places) j 0)) (r .count) ≡ listed mark f n
 unfolding _and_
-listed-all mark f n r h = listed-held mark every n r h f ∙ listed-same (λ i. mark i and true) mark f n (λ i. both (mark i))
+listed-all mark f n r h = listed-held mark every n r h f ∙ listed-same (λ i. mark i and true) mark f n (λ i l. both (mark i))
   where
     both : (b : Bool) → (b and true) ≡ b
     both true = refl

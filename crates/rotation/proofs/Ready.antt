@@ -7,6 +7,7 @@ use Rattle.rules.specs.TakeAll.{frame}
 use Rattle.frame.proofs.Accepted.{Accepted}
 use Rattle.takeall.specs.declared.Group.{Group}
 use Rattle.takeall.specs.Group.{IsGroup}
+use Rattle.draw.specs.Gaps.{Gaps}
 use Rattle.draw.proofs.Accepted.{frame-ready}
 use Rattle.members.specs.declared.Places.{Places}
 use Rattle.members.specs.Places.{PlacesOf}
@@ -16,8 +17,9 @@ use Rattle.rotation.specs.Search.{Within, Searched}
 pub within : (mark : ℕ → Bool) (n : ℕ) (m : Places) → PlacesOf mark n m → Within n m
 within mark n m p = record { most = hold-most mark (λ i. i) n m p; low = λ j l. place-low mark n m p j l }
 
-pub searched : (ns ts rs : List ℕ) (z old : ℕ) → Accepted (frame ns ts rs) z old → (g : Group) → IsGroup ts z g → (mark : ℕ → Bool) (m : Places) → PlacesOf mark (length ts) m → Searched ts rs g m
-searched ns ts rs z old ok g is mark m p = record {
+pub searched : (ns ts rs : List ℕ) (z old : ℕ) → Accepted (frame ns ts rs) z old → (g : Group) → IsGroup ts z g → (gs : List ℕ) → Gaps ts g gs → (mark : ℕ → Bool) (m : Places) → PlacesOf mark (length ts) m → Searched ts rs gs g m
+searched ns ts rs z old ok g is gs w mark m p = record {
   ready = λ start low. frame-ready (frame ns ts rs) z old start g ok is low;
+  gaps = w;
   held = within mark (length ts) m p;
 }

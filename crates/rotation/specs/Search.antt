@@ -6,13 +6,15 @@ use Rattle.rules.specs.Limits.{mostPanel, randomRange}
 use Rattle.takeall.specs.declared.Group.{Group}
 use Rattle.members.specs.declared.Places.{Places}
 use Rattle.draw.specs.Sampling.{Ready}
+use Rattle.draw.specs.Gaps.{Gaps}
 
 -- units that are held as places of a frame of n units
 pub record Within (n : ℕ) (units : Places) : Type 0 where
   pub most : units .count ≤ mostPanel
   pub low : (j : ℕ) → j < units .count → getD (units .places) j 0 < n
 
--- turnovers and random numbers of a frame with its take-all group, ready under every start, and members of it
-pub record Searched (ts rs : List ℕ) (g : Group) (members : Places) : Type 0 where
+-- turnovers and random numbers of a frame with its take-all group, ready under every start, the gaps, and members of it
+pub record Searched (ts rs gs : List ℕ) (g : Group) (members : Places) : Type 0 where
   pub ready : (start : ℕ) → start < randomRange → Ready ts rs g start
+  pub gaps : Gaps ts g gs
   pub held : Within (length ts) members

@@ -1,9 +1,11 @@
 // Rotation (document 01, "Rotation"): the smallest step of the start at which enough members leave the panel, and who leaves. The
-// take-all group and the members do not depend on the start and are found once; a step looks for the last sampled unit under its start
-// and holds each member against it.
+// take-all group, the units' gaps and the members do not depend on the start and are found once; a step looks for the last sampled unit
+// under its start and holds each member against it.
 pub mod judge;
 
-use draw::ranking;
+use draw::gaps;
+use draw::told;
+use frame::MOST_FRAME;
 use frame::MOST_PANEL;
 use frame::RANDOM_RANGE;
 use judge::FRACTION_SCALE;
@@ -55,11 +57,18 @@ fn start_at(old: u32, k: u32) -> u32
 }
 
 // The members that are not sampled under a start: who leaves.
-fn find_leavers(turnovers: &[u64], randoms: &[u32], g: Group, members: Places, start: u32) -> Places
-    requires { ⌜ Searched (now turnovers) (now randoms) g members × (start < randomRange) ⌝ }
+fn find_leavers(
+    turnovers: &[u64],
+    randoms: &[u32],
+    gaps: &[u64],
+    g: Group,
+    members: Places,
+    start: u32,
+) -> Places
+    requires { ⌜ Searched (now turnovers) (now randoms) (now gaps) g members × (start < randomRange) ⌝ }
     ensures { λ r. ⌜ Holding (memberLeaves (unnumbered (now (turnovers .entry)) (now (randoms .entry))) (rulesGroup (now (turnovers .entry)) g) (members .places) start) (λ j. getD (members .places) j 0) (members .count) r ⌝ }
 {
-    let threshold = ranking::last_sampled(turnovers, randoms, g, start);
+    let told = told::tell(turnovers, randoms, gaps, g, start);
     let units = members.places;
     let many = members.count;
     let mut places = [0usize; MOST_PANEL];
@@ -67,7 +76,7 @@ fn find_leavers(turnovers: &[u64], randoms: &[u32], g: Group, members: Places, s
     let mut j: usize = 0;
     while j < many {
         let i = units[j];
-        if !ranking::is_sampled(turnovers, randoms, g, start, threshold, i) {
+        if !told::is_sampled(turnovers, randoms, gaps, g, start, told, i) {
             places[count] = i;
             count += 1;
         }
@@ -80,18 +89,19 @@ fn find_leavers(turnovers: &[u64], randoms: &[u32], g: Group, members: Places, s
 fn first_step(
     turnovers: &[u64],
     randoms: &[u32],
+    gaps: &[u64],
     g: Group,
     members: Places,
     old: u32,
     need: usize,
 ) -> u32
-    requires { ⌜ Searched (now turnovers) (now randoms) g members × (old < randomRange) ⌝ }
+    requires { ⌜ Searched (now turnovers) (now randoms) (now gaps) g members × (old < randomRange) ⌝ }
     ensures { λ r. ⌜ r ≡ firstStep (unnumbered (now (turnovers .entry)) (now (randoms .entry))) (rulesGroup (now (turnovers .entry)) g) members old need ⌝ }
 {
     let mut k: u32 = 0;
     while k < STEPS {
         let start = start_at(old, k);
-        let leavers = find_leavers(turnovers, randoms, g, members, start);
+        let leavers = find_leavers(turnovers, randoms, gaps, g, members, start);
         if need <= leavers.count {
             return k;
         }
@@ -131,14 +141,16 @@ fn turn(
     ensures { λ _. ⌜ Written (rotationLeavers (frame (now (numbers .entry)) (now (turnovers .entry)) (now (randoms .entry))) z old (now (panel .entry)) fraction (now (leavers .entry))) (now (leavers .entry)) (now (leavers .exit)) ⌝ }
 {
     let g = takeall::find_group(turnovers, z);
+    let mut gaps = [0u64; MOST_FRAME];
+    gaps::fill(turnovers, g, &mut gaps);
     let members = members::members(numbers, turnovers, panel, g);
     let need = required(fraction, members.count);
-    let k = first_step(turnovers, randoms, g, members, old, need);
+    let k = first_step(turnovers, randoms, &gaps, g, members, old, need);
     if STEPS <= k {
         return Answer::Refused(Refusal::NoStep);
     }
     let start = start_at(old, k);
-    let left = find_leavers(turnovers, randoms, g, members, start);
+    let left = find_leavers(turnovers, randoms, &gaps, g, members, start);
     write_numbers(numbers, left, leavers);
     Answer::Rotated {
         k,

@@ -48,7 +48,7 @@ rest-shorter n s j e = go (reading s) refl e
     go (Reading.command c) q o = shorter s c q
 
 -- the bytes that a turn's caller prints are the turn's text
-shown : (t : Turn) (r : Turned) (before after : List ℕ) → Renders t r before after → take (r .count) after ≡ t .text
+pub shown : (t : Turn) (r : Turned) (before after : List ℕ) → Renders t r before after → take (r .count) after ≡ t .text
 shown t r before after h =
     ap (λ (m : ℕ). take m after) (h .count) ∙ ap (λ (l : List ℕ). take (length (t .text)) l) (h .text)
     ∙ take-at (t .text) (drop (length (t .text)) before) (length (t .text)) refl
@@ -99,7 +99,7 @@ module _ (stream : List ℕ) where
   unfolding output
   over h = rw (lt-ltb mostStream (length stream) h)
 
-  by-limit : output stream ≡ printed (length stream) (suc (length stream)) stream emptyJob
+  pub by-limit : output stream ≡ printed (length stream) (suc (length stream)) stream emptyJob
   by-limit = go (ltb mostStream (length stream)) refl
     where
       go : (b : Bool) → ltb mostStream (length stream) ≡ b → output stream ≡ printed (length stream) (suc (length stream)) stream emptyJob

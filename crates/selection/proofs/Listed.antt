@@ -82,7 +82,7 @@ count-again first second n ps h =
     ∙ listed-length (λ i. first i and second i) (λ i. i) n
 
 -- marks that agree list the same
-pub listed-same : (p q : ℕ → Bool) (f : ℕ → ℕ) (n : ℕ) → ((i : ℕ) → p i ≡ q i) → listed p f n ≡ listed q f n
+pub listed-same : (p q : ℕ → Bool) (f : ℕ → ℕ) (n : ℕ) → ((i : ℕ) → i < n → p i ≡ q i) → listed p f n ≡ listed q f n
 unfolding listed
 listed-same p q f zero h = refl
-listed-same p q f (suc n) h = rw (h n, listed-same p q f n h)
+listed-same p q f (suc n) h = rw (h n (omega arith), listed-same p q f n (λ i l. h i (omega arith)))

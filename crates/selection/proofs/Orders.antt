@@ -101,11 +101,11 @@ pub record KeyOrder (among : ℕ → Bool) (below : ℕ → ℕ → Bool) (n : �
   pub asym : (i j : ℕ) → i < n → j < n → among i ≡ true → among j ≡ true → below i j ≡ true → below j i ≡ false
   pub split : (i j k : ℕ) → i < n → j < n → k < n → among i ≡ true → among j ≡ true → among k ≡ true → below i k ≡ true → below i j ≡ false → below j k ≡ true
 
-by-left : (below : ℕ → ℕ → Bool) (j i : ℕ) → below j i ≡ true → byKey below j i ≡ true
+pub by-left : (below : ℕ → ℕ → Bool) (j i : ℕ) → below j i ≡ true → byKey below j i ≡ true
 unfolding byKey _or_
 by-left below j i h = rw h
 
-by-right : (below : ℕ → ℕ → Bool) (j i : ℕ) → below i j ≡ false → j < i → byKey below j i ≡ true
+pub by-right : (below : ℕ → ℕ → Bool) (j i : ℕ) → below i j ≡ false → j < i → byKey below j i ≡ true
 unfolding byKey _or_ _and_
 by-right below j i h l = go (below j i)
   where

@@ -12,13 +12,14 @@ use Rattle.rules.specs.TakeAll.{turnover}
 use Rattle.rules.specs.Draw.{shifted}
 use Rattle.rules.specs.Selection.{count, listed}
 use Rattle.selection.proofs.Sums.{listed-length, count-le}
-use Rattle.selection.proofs.Listed.{listed-low}
+use Rattle.rules.specs.Tests.{_and_}
+use Rattle.selection.proofs.Listed.{listed-low, listed-again, listed-same}
 use Rattle.keys.specs.Units.{numOf, denOf, Units}
 use Rattle.keys.proofs.Keys.{shifted-low, denominator-positive}
 use Rattle.shortlist.specs.declared.Bound.{Bound}
 use Rattle.shortlist.specs.declared.Shortlist.{Shortlist}
 use Rattle.shortlist.specs.declared.Found.{Found}
-use Rattle.shortlist.specs.Bound.{near, partOf, mostWord, Listed, Placed, Under, Scaled, Parts, Checked, IsFound}
+use Rattle.shortlist.specs.Bound.{near, partOf, mostWord, Listed, Placed, Under, Scaled, Parts, Checked, IsFound, passes, passing, within, Passing}
 use Rattle.shortlist.proofs.Bounded.{checked-bounds}
 
 pub unit-positive : (ts rs gs : List ℕ) (start : ℕ) → Units ts rs gs start → (i : ℕ) → i < length ts → 0 < denOf ts rs start i
@@ -64,3 +65,32 @@ module _ (ts rs gs : List ℕ) (start reach : ℕ) (r : Shortlist) (h : Listed t
 
       are : take (r .count) (r .units) ≡ listed (near ts rs gs start reach) (λ i. i) (length ts)
       are = h .units-are ∙ ap (listed (near ts rs gs start reach) (λ i. i)) seen
+
+-- ---- what is found, as the list of those within its bound
+module _ (ts rs gs : List ℕ) (start reach z : ℕ) (r : Found) (h : IsFound ts rs gs start reach z r) where
+  near-at : near ts rs gs start (r .bound .reach) ≡ near ts rs gs start reach
+  near-at = ap (near ts rs gs start) (h .reach-is)
+
+  -- f of the listed units that pass is f of the frame's units within the bound
+  pub found-listed : (f : ℕ → ℕ) → listed (passing r) (λ j. f (getD (r .units) j 0)) (r .count) ≡ listed (within ts rs gs start (r .bound)) f (length ts)
+  unfolding within
+  found-listed f =
+      listed-same (passing r) (λ j. passes (r .bound) (partOf ts rs gs start (r .bound .scale) (getD (r .units) j 0)) (getD (r .units) j 0)) (λ j. f (getD (r .units) j 0)) (r .count)
+      (λ j l. ap (λ (p : ℕ). passes (r .bound) p (getD (r .units) j 0)) (h .parts-are j l))
+      ∙ ap (listed (λ j. passes (r .bound) (partOf ts rs gs start (r .bound .scale) (getD (r .units) j 0)) (getD (r .units) j 0)) (λ j. f (getD (r .units) j 0))) (h .many)
+      ∙ listed-again (near ts rs gs start reach) (λ i. passes (r .bound) (partOf ts rs gs start (r .bound .scale) i) i) f (length ts) (r .units) (ap (λ (k : ℕ). take k (r .units)) (sym (h .many)) ∙ h .units-are)
+      ∙ ap (λ (m : ℕ → Bool). listed (λ i. m i and passes (r .bound) (partOf ts rs gs start (r .bound .scale) i) i) f (length ts)) (sym near-at)
+
+  pub found-passing : Passing (length ts) r z
+  found-passing = record {
+    units-room = h .units-room;
+    parts-room = h .parts-room;
+    few = h .few;
+    low = λ j l. low j l;
+    exactly = sym (listed-length (passing r) (λ j. getD (r .units) j 0) (r .count)) ∙ ap length (found-listed (λ i. i)) ∙ listed-length (within ts rs gs start (r .bound)) (λ i. i) (length ts) ∙ h .bounds .exactly;
+  }
+    where
+      low : (j : ℕ) → j < r .count → getD (r .units) j 0 < length ts
+      low j l =
+          let under = listed-low (near ts rs gs start reach) (length ts) j (omega (arith, l, listed-length (near ts rs gs start reach) (λ i. i) (length ts), h .many)) in
+          omega (arith, sym (getD-take (r .count) (r .units) j 0 l), ap (λ (xs : List ℕ). getD xs j 0) (h .units-are), under)

@@ -98,3 +98,15 @@ pub record IsFound (ts rs gs : List ℕ) (start reach z : ℕ) (r : Found) : Typ
   pub many : r .count ≡ count (near ts rs gs start reach) (length ts)
   pub units-are : take (r .count) (r .units) ≡ listed (near ts rs gs start reach) (λ i. i) (length ts)
   pub parts-are : (j : ℕ) → j < r .count → getD (r .parts) j 0 ≡ partOf ts rs gs start (r .bound .scale) (getD (r .units) j 0)
+
+-- the unit at place j of what is found passes
+abbrev pub passing : Found → ℕ → Bool
+passing r j = passes (r .bound) (getD (r .parts) j 0) (getD (r .units) j 0)
+
+-- what is found as a list: units of a frame of n, of which z pass
+pub record Passing (n : ℕ) (r : Found) (z : ℕ) : Type 0 where
+  pub units-room : length (r .units) ≡ 256
+  pub parts-room : length (r .parts) ≡ 256
+  pub few : r .count ≤ 256
+  pub low : (j : ℕ) → j < r .count → getD (r .units) j 0 < n
+  pub exactly : count (passing r) (r .count) ≡ z

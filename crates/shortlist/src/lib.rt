@@ -7,10 +7,10 @@ pub mod search;
 use fraction::Fraction;
 ghost use mathlib.Core.Path.{_≡_};
 ghost use mathlib.Core.Bool.{true};
-ghost use Prim.Native.Nat.{_*_, _≤_, _<_};
+ghost use Prim.Native.Nat.{_+_, _*_, _/_, _≤_, _<_};
 ghost use lib.ListN.{length, getD};
 ghost use lib.Dec.{leb};
-ghost use Rattle.rules.specs.Limits.{mostTurnover, randomRange};
+ghost use Rattle.rules.specs.Limits.{mostTurnover, randomRange, mostPanel};
 ghost use Rattle.keys.specs.Units.{Units, numOf};
 ghost use Rattle.rules.specs.Draw.{fractionBelow};
 ghost use Rattle.shortlist.specs.Bound.{near, within, passes, Reach, Listed, Placed, Under, Scaled, Parts, Apart, Checked, Bounds, IsFound, mostWord};
@@ -43,6 +43,14 @@ pub struct Found {
     pub count: usize,
     pub bound: Bound,
     pub sure: bool,
+}
+
+// The reach for n units to sample: n and half as much again, and 8, so that a short list seldom has fewer than n of them.
+pub fn reach_of(n: u64) -> u64
+    requires { ⌜ n ≤ mostPanel ⌝ }
+    ensures { λ r. ⌜ r ≡ n + n / 2 + 8 ⌝ }
+{
+    n + n / 2 + 8
 }
 
 // A key is at most `reach`. A key of 0 needs no product.

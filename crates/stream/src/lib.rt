@@ -147,7 +147,7 @@ pub fn read(s: &[u8]) -> Reading
 }
 
 // The bytes that `read` takes from the front of s.
-fn taken(s: &[u8]) -> usize
+pub fn taken(s: &[u8]) -> usize
     ensures { λ r. ⌜ r ≡ takenOf (now (s .entry)) ⌝ }
 {
     match read(s) {

@@ -1,3 +1,4 @@
 pub mod Later
+pub mod Groups
 pub mod Refusals
 pub mod Marks

@@ -6,7 +6,7 @@ use lib.ListN.{length}
 use Rattle.rules.specs.Limits.{mostTurnover, mostPanel}
 use Rattle.rules.specs.Lists.{sum}
 use Rattle.rules.specs.Selection.{rank, every}
-use Rattle.rules.specs.TakeAll.{larger, largest, takeAllSize, takeAllGroup}
+use Rattle.rules.specs.TakeAll.{turnover, larger, largest, takeAllSize, takeAllGroup}
 use Rattle.rules.specs.TakeAll.{Group as RulesGroup}
 use Rattle.takeall.specs.declared.Group.{Group}
 
@@ -16,6 +16,11 @@ pub record Sized (ts : List ℕ) (z : ℕ) : Type 0 where
   pub most : z ≤ mostPanel
   pub within : z ≤ length ts
   pub total : sum ts ≤ mostTurnover
+
+-- m is the largest turnover of the first n units, 0 of none: at least each of them, and at most whatever else is
+pub record Most (ts : List ℕ) (n m : ℕ) : Type 0 where
+  pub above : (i : ℕ) → i < n → turnover ts i ≤ m
+  pub least : (b : ℕ) → ((i : ℕ) → i < n → turnover ts i ≤ b) → m ≤ b
 
 -- w is the last of the q largest units, where there is one
 pub record LastOf (ts : List ℕ) (q w : ℕ) : Type 0 where

@@ -14,7 +14,7 @@ ghost use Rattle.rules.specs.Selection.{every, listed};
 ghost use Rattle.rules.specs.TakeAll.{larger, largest, takeAllRefusal, takeAllAnswer, takeAllMarks};
 ghost use Rattle.refusals.specs.Number.{verdictOf};
 ghost use Rattle.selection.specs.Ranked.{Ranked};
-ghost use Rattle.takeall.specs.Group.{Sized, LastOf, IsGroup};
+ghost use Rattle.takeall.specs.Group.{Sized, Most, LastOf, IsGroup};
 ghost use Rattle.takeall.specs.Answer.{answerOf};
 
 // The take-all group as a value: q units, of which `last` is the last where there is one; n more are sampled, and rest is X.
@@ -44,13 +44,28 @@ fn total(turnovers: &[u64]) -> u64
     total
 }
 
-// The group, where the z largest units are known: q grows while the largest unit outside reaches X.
-pub fn group_from(turnovers: &[u64], z: usize, top: &[usize]) -> Group
-    requires { ⌜ Sized (now turnovers) z ⌝ }
+// The largest turnover.
+fn most(turnovers: &[u64]) -> u64
+    ensures { λ r. ⌜ Most (now (turnovers .entry)) (length (now (turnovers .entry))) r ⌝ }
+{
+    let mut most: u64 = 0;
+    let mut i: usize = 0;
+    while i < turnovers.len() {
+        if most < turnovers[i] {
+            most = turnovers[i];
+        }
+        i += 1;
+    }
+    most
+}
+
+// The group, where the total and the z largest units are known: q grows while the largest unit outside reaches X.
+fn grow(turnovers: &[u64], z: usize, total: u64, top: &[usize]) -> Group
+    requires { ⌜ Sized (now turnovers) z × (total ≡ sum (now turnovers)) ⌝ }
     requires { ⌜ (z ≤ length (now top)) × Ranked every (larger (now turnovers)) (length (now turnovers)) (now top) z ⌝ }
     ensures { λ r. ⌜ IsGroup (now (turnovers .entry)) z r ⌝ }
 {
-    let mut rest = total(turnovers);
+    let mut rest = total;
     let mut last: usize = 0;
     let mut q: usize = 0;
     while q < z {
@@ -72,13 +87,34 @@ pub fn group_from(turnovers: &[u64], z: usize, top: &[usize]) -> Group
     }
 }
 
-// The group of a frame that refusals 3 and 5 leave.
+// The group, where the z largest units are known.
+pub fn group_from(turnovers: &[u64], z: usize, top: &[usize]) -> Group
+    requires { ⌜ Sized (now turnovers) z ⌝ }
+    requires { ⌜ (z ≤ length (now top)) × Ranked every (larger (now turnovers)) (length (now turnovers)) (now top) z ⌝ }
+    ensures { λ r. ⌜ IsGroup (now (turnovers .entry)) z r ⌝ }
+{
+    let total = total(turnovers);
+    grow(turnovers, z, total, top)
+}
+
+// The group of a frame that refusals 3 and 5 leave. Where not even the largest turnover reaches X at q = 0, which is the total, no unit
+// is take-all, and no unit needs to be put in order.
 pub fn find_group(turnovers: &[u64], z: usize) -> Group
     requires { ⌜ Sized (now turnovers) z ⌝ }
     ensures { λ r. ⌜ IsGroup (now (turnovers .entry)) z r ⌝ }
 {
+    let total = total(turnovers);
+    let most = most(turnovers);
+    if (z as u64) * most < total {
+        return Group {
+            q: 0,
+            n: z,
+            rest: total,
+            last: 0,
+        };
+    }
     let top = largest::largest_units(turnovers, z);
-    group_from(turnovers, z, &top)
+    grow(turnovers, z, total, &top)
 }
 
 // Unit i is in the group: one comparison with the group's last.

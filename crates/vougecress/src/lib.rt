@@ -1,9 +1,10 @@
 // The library for callers in C: every entry on numbers and lent lists. Each answers what the inner entry answers, and a
-// refusal as document 01's number in `refusal` (0: accepted; every other field is 0 after a refusal).
+// refusal as document 01's number in `refusal` (0: accepted; every other field but a run's length is 0 after a refusal).
 // include/vougecress.h documents each function for its caller.
 pub mod frames;
 pub mod record;
 pub mod rotates;
+pub mod streams;
 
 use chain::Answer;
 use opening::Opening;

@@ -15,11 +15,11 @@ use Rattle.rotation.proofs.find_leavers.Statement.{statement}
 use Rattle.rotation.proofs.find_leavers.Tie as tie
 
 abbrev Inv-loop : tie.InvT-loop
-Inv-loop turnovers randoms g start threshold units many places₀ count₀ j₀ places count j =
+Inv-loop turnovers randoms gaps g start told units many places₀ count₀ j₀ places count j =
     (j ≤ many) × (count ≤ j) × Holding (memberLeaves (unnumbered turnovers randoms) (rulesGroup turnovers g) units start) (λ k. getD units k 0) j (held places count)
 
 abbrev μ-loop : tie.MeasureT-loop
-μ-loop turnovers randoms g start threshold units many places₀ count₀ j₀ places count j = many - j
+μ-loop turnovers randoms gaps g start told units many places₀ count₀ j₀ places count j = many - j
 
 -- the mark of a member that leaves
 abbrev mark : tie.Start Inv-loop μ-loop → ℕ → Bool
@@ -27,32 +27,36 @@ mark st =
     let a = st .args in
     memberLeaves (unnumbered (a .turnovers .now) (a .randoms .now)) (rulesGroup (a .turnovers .now) (a .g)) (a .members .places) (a .start)
 
-last-sampled-requires : tie.Need-last-sampled-requires Inv-loop μ-loop
-last-sampled-requires c κs = c .before .before .pre .0 .ready (c .before .before .args .start) (c .before .before .pre .1)
+tell-requires : tie.Need-tell-requires Inv-loop μ-loop
+tell-requires c κs =
+    let st = c .before .before .before in
+    (st .pre .0 .ready (st .args .start) (st .pre .1), st .pre .0 .gaps)
 
 loop-holds : tie.Need-loop-holds Inv-loop μ-loop
 loop-holds c = (omega arith, omega arith, hold-none _ _ _ refl)
 
 mul-i : tie.Need-mul-i Inv-loop μ-loop
-mul-i c = omega (arith, c .before .before .before .before .before .before .pre .0 .held .most)
+mul-i c = omega (arith, c .before .before .before .before .before .before .before .pre .0 .held .most)
 
 array-read-i : tie.Need-array-read-i Inv-loop μ-loop
-array-read-i c = omega (arith, c .before .before .before .before .before .before .pre .0 .held .most)
+array-read-i c = omega (arith, c .before .before .before .before .before .before .before .pre .0 .held .most)
 
 is-sampled-requires : tie.Need-is-sampled-requires Inv-loop μ-loop
-is-sampled-requires c κs = (c .before .before .before .before .before .before .pre .0 .ready (c .before .before .before .before .before .before .args .start) (c .before .before .before .before .before .before .pre .1), c .before .before .before .before .before .before .pre .0 .held .low (c .before .loop .j) (c .loop-test .taken), c .before .before .before .last-sampled .ensures)
+is-sampled-requires c κs =
+    let st = c .before .before .before .before .before .before .before in
+    ((st .pre .0 .ready (st .args .start) (st .pre .1), st .pre .0 .gaps, st .pre .0 .held .low (c .before .loop .j) (c .loop-test .taken)), c .before .before .before .tell .ensures)
 
 mul-places : tie.Need-mul-places Inv-loop μ-loop
-mul-places c = omega (arith, c .before .before .before .before .before .before .before .before .pre .0 .held .most)
+mul-places c = omega (arith, c .before .before .before .before .before .before .before .before .before .pre .0 .held .most)
 
 array-write-places : tie.Need-array-write-places Inv-loop μ-loop
-array-write-places c = omega (arith, c .before .before .before .before .before .before .before .before .pre .0 .held .most)
+array-write-places c = omega (arith, c .before .before .before .before .before .before .before .before .before .pre .0 .held .most)
 
 add-count : tie.Need-add-count Inv-loop μ-loop
-add-count c = omega (arith, c .before .before .before .before .before .before .before .before .pre .0 .held .most)
+add-count c = omega (arith, c .before .before .before .before .before .before .before .before .before .pre .0 .held .most)
 
 add-j : tie.Need-add-j Inv-loop μ-loop
-add-j c = omega (arith, c .before .before .before .before .before .before .before .before .pre .0 .held .most)
+add-j c = omega (arith, c .before .before .before .before .before .before .before .before .before .pre .0 .held .most)
 
 loop-less : tie.Need-loop-less Inv-loop μ-loop
 loop-less c = search needs
@@ -60,7 +64,7 @@ loop-less c = search needs
 loop-again : tie.Need-loop-again Inv-loop μ-loop
 unfolding memberLeaves
 loop-again c =
-    let st = c .before .before .before .before .before .before .before .before in
+    let st = c .before .before .before .before .before .before .before .before .before in
     let m = mark st in
     let f : ℕ → ℕ = λ k. getD (st .args .members .places) k 0 in
     let j = c .before .before .before .loop .j in
@@ -78,7 +82,7 @@ loop-again c =
 
 returns : tie.Need-returns Inv-loop μ-loop
 returns c =
-    let st = c .before .before .before .before .before .before in
+    let st = c .before .before .before .before .before .before .before in
     let all : c .before .loop .j ≡ st .args .members .count = omega arith in
     subst (λ (n : ℕ). Holding (mark st) (λ k. getD (st .args .members .places) k 0) n (held (c .before .loop .places) (c .before .loop .count))) all (c .before .loop .inv .2)
 
@@ -88,7 +92,7 @@ find-leavers-spec =
     (tie.spec
     Inv-loop
     μ-loop
-    last-sampled-requires
+    tell-requires
     loop-holds
     mul-i
     array-read-i

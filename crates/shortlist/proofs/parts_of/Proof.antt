@@ -71,8 +71,7 @@ loop-less c = search needs
 loop-again : tie.Need-loop-again Inv-loop μ-loop
 loop-again c =
     let s = c .before .before .before .before .before .before .before .before .before .before in
-    let at = c .before .before .before .before .before .loop in
-    (
+    let at = c .before .before .before .before .before .loop in (
       omega arith,
       simp length-set (at .inv .1),
       more _ _ _ _ _ _ _ _ _ (omega (arith, c .before .before .before .before .loop-test .taken, s .pre .1 .1, at .inv .1)) (sym (part-is _ _ _ _ _ _ _ (c .before .before .unit-key .ensures))) (at .inv .2),

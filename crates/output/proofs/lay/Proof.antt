@@ -1,0 +1,78 @@
+-- `lay`: the first i bytes stand from the place at on.
+use Prim.Native.Nat.{_+_, _-_, _≤_, _<_}
+use mathlib.Core.Path.{_≡_, refl, _∙_}
+use lib.ListN.{length, length-set}
+use lib.Seq.{paste, paste-zero, paste-suc}
+use native.Mathlib.Omega.{arith}
+use native.Mathlib.Numerals.{add-one}
+use Rattle.output.proofs.Fitting.{no-room, all-laid}
+use Rattle.output.proofs.lay.Statement.{statement}
+use Rattle.output.proofs.lay.Tie as tie
+
+abbrev Inv-loop : tie.InvT-loop
+Inv-loop text count out₀ at bytes i₀ out i = (i ≤ count) × (at + count ≤ length out₀) × (length out ≡ length out₀) × (out ≡ paste out₀ at text i)
+
+abbrev μ-loop : tie.MeasureT-loop
+μ-loop text count out₀ at bytes i₀ out i = count - i
+
+returns : tie.Need-returns Inv-loop μ-loop
+returns c = (omega (arith, c .before .bytes .given, c .before .before .pre), no-room (c .before .before .args .out .now) (c .before .before .args .text .now) (c .before .before .args .at) (c .before .before .args .count) (c .before .before .pre) (omega arith))
+
+sub-if2 : tie.Need-sub-if2 Inv-loop μ-loop
+sub-if2 c = omega arith
+
+returns-2 : tie.Need-returns-2 Inv-loop μ-loop
+returns-2 c = (omega (arith, c .before .before .bytes .given, c .before .before .before .pre), no-room (c .before .before .before .args .out .now) (c .before .before .before .args .text .now) (c .before .before .before .args .at) (c .before .before .before .args .count) (c .before .before .before .pre) (omega arith))
+
+loop-holds : tie.Need-loop-holds Inv-loop μ-loop
+loop-holds c = (omega arith, omega arith, refl, paste-zero (c .before .before .before .args .out .now) (c .before .before .before .args .at) (c .before .before .before .args .text .now))
+
+shared-slice-read-out : tie.Need-shared-slice-read-out Inv-loop μ-loop
+shared-slice-read-out c = omega arith
+
+add-out : tie.Need-add-out Inv-loop μ-loop
+add-out c = omega arith
+
+slice-write-out : tie.Need-slice-write-out Inv-loop μ-loop
+slice-write-out c = omega arith
+
+add-i : tie.Need-add-i Inv-loop μ-loop
+add-i c = omega arith
+
+loop-less : tie.Need-loop-less Inv-loop μ-loop
+loop-less c = omega arith
+
+loop-again : tie.Need-loop-again Inv-loop μ-loop
+loop-again c =
+    let a = c .before .before .before .before .before .before .args in
+    let i = c .before .before .loop .i in
+    let room : a .at + i < length (a .out .now) = omega arith in
+    let within : i < length (a .text .now) = omega (arith, c .before .before .before .before .before .before .pre) in
+    (omega arith, omega arith, simp length-set (c .before .before .loop .inv .2), rw (c .before .before .loop .inv .3, add-one) (paste-suc (a .out .now) (a .at) (a .text .now) i 0 room within))
+
+same-length : tie.Need-same-length Inv-loop μ-loop
+same-length c = c .before .loop .inv .2
+
+returns-3 : tie.Need-returns-3 Inv-loop μ-loop
+returns-3 c =
+    let a = c .before .before .before .before .before .args in
+    (omega (arith, c .before .before .before .before .bytes .given, c .before .before .before .before .before .pre), c .before .loop .inv .3 ∙ all-laid (a .out .now) (a .text .now) (a .at) (a .count) (c .before .before .before .before .before .pre) (c .before .loop .i) (omega arith) (omega arith))
+
+pub lay-spec : {M : Type 1} → statement M
+lay-spec =
+    tie.close
+    (tie.spec
+    Inv-loop
+    μ-loop
+    returns
+    sub-if2
+    returns-2
+    loop-holds
+    shared-slice-read-out
+    add-out
+    slice-write-out
+    add-i
+    loop-less
+    loop-again
+    same-length
+    returns-3)

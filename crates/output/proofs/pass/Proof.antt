@@ -1,0 +1,78 @@
+-- `pass`: each turn by the laws of `Passes`; it ends since each turn that goes on has read a command, and the rest is shorter.
+use mathlib.Core.Path.{sym, ap, _∙_}
+use lib.ListN.{length}
+use native.Mathlib.Omega.{arith}
+use borrow.Author.Needs.{needs}
+use borrow.Author.Tests.{not-false, not-true}
+use Rattle.job.specs.State.{jobOf}
+use Rattle.run.proofs.Whole.{rest-shorter, count-within}
+use Rattle.output.proofs.Passes.{Under, start, ends, again}
+use Rattle.output.proofs.pass.Statement.{statement}
+use Rattle.output.proofs.pass.Tie as tie
+
+abbrev Inv-loop : tie.InvT-loop
+Inv-loop stream out₀ text₀ unread₀ held₀ at₀ out text unread held at = Under stream out₀ out unread (jobOf held) at
+
+abbrev μ-loop : tie.MeasureT-loop
+μ-loop stream out₀ text₀ unread₀ held₀ at₀ out text unread held at = length unread
+
+text-room-requires : tie.Need-text-room-requires Inv-loop μ-loop
+text-room-requires c κs = search needs
+
+empty-requires : tie.Need-empty-requires Inv-loop μ-loop
+empty-requires c κs = search needs
+
+loop-holds : tie.Need-loop-holds Inv-loop μ-loop
+loop-holds c = start (c .before .before .before .before .args .stream .now) (c .before .before .before .before .args .out .now) (jobOf (c .empty .result)) (c .empty .ensures)
+
+turn-requires : tie.Need-turn-requires Inv-loop μ-loop
+turn-requires c κs = search needs
+
+lay-requires : tie.Need-lay-requires Inv-loop μ-loop
+lay-requires c κs = count-within _ _ _ (c .before .before .turn .ensures)
+
+add-at : tie.Need-add-at Inv-loop μ-loop
+add-at c = omega (arith, c .before .before .before .before .before .before .before .loop .inv .few, c .before .before .lay .ensures .0)
+
+same-length : tie.Need-same-length Inv-loop μ-loop
+same-length c = c .before .before .before .before .lay .kept .1 .1 .0 ∙ c .before .before .before .before .before .before .before .before .before .loop .inv .kept
+
+returns : tie.Need-returns Inv-loop μ-loop
+returns c =
+    let l = c .before .before .before .before .before .before .before .before .before .loop in
+    let t = c .before .before .before .before .before .before .before .turn in
+    ends _ _ _ (l .unread .now) (jobOf (l .held)) _ (l .inv) (t .result) _ _ _ (t .ensures) (c .before .before .before .before .lay .ensures .1) (not-true _ (c .if1 .taken))
+
+rest-requires : tie.Need-rest-requires Inv-loop μ-loop
+rest-requires c κs = search needs
+
+loop-less : tie.Need-loop-less Inv-loop μ-loop
+loop-less c =
+    let l = c .before .before .before .before .before .before .before .before .before .before .before .loop in
+    let more = sym (c .before .before .before .before .before .before .before .before .before .turn .ensures .goes) ∙ not-false _ (c .before .before .if1 .left) in
+    omega (arith, ap length (c .rest .ensures), rest-shorter _ (l .unread .now) (jobOf (l .held)) more)
+
+loop-again : tie.Need-loop-again Inv-loop μ-loop
+loop-again c =
+    let l = c .before .before .before .before .before .before .before .before .before .before .before .loop in
+    let t = c .before .before .before .before .before .before .before .before .before .turn in
+    let laid = c .before .before .before .before .before .before .lay in
+    again _ _ _ (l .unread .now) (jobOf (l .held)) _ (l .inv) (t .result) _ _ _ (t .ensures) (laid .ensures .1) _ (c .rest .ensures) (not-false _ (c .before .before .if1 .left)) (laid .ensures .0) (laid .kept .1 .1 .0)
+
+pub pass-spec : {M : Type 1} → statement M
+pass-spec =
+    tie.close
+    (tie.spec
+    Inv-loop
+    μ-loop
+    text-room-requires
+    empty-requires
+    loop-holds
+    turn-requires
+    lay-requires
+    add-at
+    same-length
+    returns
+    rest-requires
+    loop-less
+    loop-again)

@@ -1,0 +1,89 @@
+// Document 01, "Job stream": all that a stream prints, laid into a lent buffer. The first of two passes over the turns (`run`) only counts, since a
+// buffer that is too short is to stay as it was.
+use refusals::Refusal;
+use run::TEXT_ROOM;
+ghost use mathlib.Core.Path.{_≡_};
+ghost use Prim.Native.Nat.{_≤_};
+ghost use lib.ListN.{length, take};
+ghost use Rattle.rules.specs.Job.{output};
+ghost use Rattle.lines.specs.Laid.{panelRoom};
+ghost use Rattle.output.specs.Printed.{printRefusal, printedOn, refusalIn, fitted, Passed};
+
+// Whether the text stands in the buffer.
+pub enum Answer {
+    Laid,
+    Refused(Refusal),
+}
+
+// The answer, and the bytes of the whole text in either case.
+pub struct Printed {
+    pub answer: Answer,
+    pub length: usize,
+}
+
+fn text_room() -> [u8; TEXT_ROOM]
+    ensures { λ r. ⌜ panelRoom ≡ length r ⌝ }
+{
+    [0; TEXT_ROOM]
+}
+
+// Lays the first count bytes of a turn's text from the place at on, if they have room.
+fn lay(text: &[u8; TEXT_ROOM], count: usize, out: &mut [u8], at: usize)
+    requires { ⌜ count ≤ length (now text) ⌝ }
+    ensures { λ _. ⌜ (count ≤ panelRoom) × (now (out .exit) ≡ fitted at (take count (now (text .entry))) (now (out .entry))) ⌝ }
+{
+    let bytes: &[u8] = text;
+    if out.len() < at {
+        return;
+    }
+    if out.len() - at < count {
+        return;
+    }
+    let mut i: usize = 0;
+    while i < count {
+        out[at + i] = bytes[i];
+        i += 1;
+    }
+}
+
+// Does the commands of a stream in turn, lays the text of each behind the one before as long as there is room, and answers the bytes of all.
+fn pass(stream: &[u8], out: &mut [u8]) -> usize
+    ensures { λ r. ⌜ Passed (now (stream .entry)) (now (out .entry)) (now (out .exit)) r ⌝ }
+{
+    let mut text = text_room();
+    let mut unread = stream;
+    let mut held = job::empty();
+    let mut at: usize = 0;
+    loop {
+        let turned = run::turn(stream.len(), unread, held, &mut text);
+        let count = turned.count;
+        lay(&text, count, out, at);
+        at += count;
+        if !turned.more {
+            return at;
+        }
+        let next = turned.job;
+        held = next;
+        let rest = stream::rest(unread);
+        unread = rest;
+    }
+}
+
+// The whole text of a stream at the front of a lent buffer, and its bytes.
+pub fn print(stream: &[u8], out: &mut [u8]) -> Printed
+    ensures { λ r. ⌜ (refusalIn (r .answer) ≡ printRefusal (now (stream .entry)) (now (out .entry))) × (r .length ≡ length (output (now (stream .entry)))) ⌝ }
+    ensures { λ _. ⌜ now (out .exit) ≡ printedOn (now (stream .entry)) (now (out .entry)) ⌝ }
+{
+    let length = pass(stream, &mut out[..0]);
+    if out.len() < length {
+        return Printed {
+            answer: Answer::Refused(Refusal::ResultBuffer),
+            length,
+        };
+    }
+    pass(stream, out);
+    Printed {
+        answer: Answer::Laid,
+        length,
+    }
+}

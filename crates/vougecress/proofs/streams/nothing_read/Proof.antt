@@ -1,0 +1,10 @@
+-- The fields are those of the definition.
+use mathlib.Core.Path.{refl}
+use Rattle.vougecress.proofs.streams.nothing_read.Statement.{statement}
+use Rattle.vougecress.proofs.streams.nothing_read.Tie as tie
+
+returns : tie.Need-returns
+returns c = refl
+
+pub nothing-read-spec : {M : Type 1} → statement M
+nothing-read-spec = tie.close (tie.spec returns)
