@@ -21,6 +21,9 @@ ghost use Rattle.draw.specs.Sampling.{unnumbered, Ready};
 ghost use Rattle.draw.specs.Gaps.{Gaps};
 ghost use Rattle.draw.specs.Answer.{answerOf};
 
+// Units of a small frame: as many as a job holds.
+const SMALL_FRAME: usize = 1024;
+
 pub enum Answer {
     Drawn { n: usize, rest: u64 },
     Refused(Refusal),
@@ -85,7 +88,36 @@ fn write_ordered(
     );
 }
 
-// Draws the panel of a frame that no refusal stops, and answers the take-all group that it was drawn with.
+// Draws the panel of a frame that no refusal stops, with room for the gaps of its units, and answers the take-all group that it was drawn with.
+fn draw_with(
+    numbers: &[u32],
+    turnovers: &[u64],
+    randoms: &[u32],
+    z: usize,
+    start: u32,
+    gaps: &mut [u64],
+    panel: &mut [u32],
+    weights: &mut [u64],
+) -> Group
+    requires { ⌜ drawRefusal (frame (now numbers) (now turnovers) (now randoms)) z start (now panel) (now weights) ≡ 0 ⌝ }
+    requires { ⌜ length (now turnovers) ≤ length (now gaps) ⌝ }
+    ensures { λ g. ⌜ IsGroup (now (turnovers .entry)) z g ⌝ }
+    ensures { λ _. ⌜ now (panel .exit) ≡ drawNumbers (frame (now (numbers .entry)) (now (turnovers .entry)) (now (randoms .entry))) z start (now (panel .entry)) (now (weights .entry)) ⌝ }
+    ensures { λ _. ⌜ now (weights .exit) ≡ drawWeights (frame (now (numbers .entry)) (now (turnovers .entry)) (now (randoms .entry))) z start (now (panel .entry)) (now (weights .entry)) ⌝ }
+{
+    let g = takeall::find_group(turnovers, z);
+    gaps::fill(turnovers, g, gaps);
+    let reach = shortlist::reach_of(g.n as u64);
+    let found = shortlist::find(turnovers, randoms, gaps, start, reach, z);
+    if found.sure {
+        writing::write_found(numbers, turnovers, randoms, g, start, found, panel, weights);
+        return g;
+    }
+    write_ordered(numbers, turnovers, randoms, gaps, g, start, panel, weights);
+    g
+}
+
+// Draws the panel of a frame that no refusal stops. Room for the largest frame is not laid out for a small one.
 fn draw_panel(
     numbers: &[u32],
     turnovers: &[u64],
@@ -100,17 +132,30 @@ fn draw_panel(
     ensures { λ _. ⌜ now (panel .exit) ≡ drawNumbers (frame (now (numbers .entry)) (now (turnovers .entry)) (now (randoms .entry))) z start (now (panel .entry)) (now (weights .entry)) ⌝ }
     ensures { λ _. ⌜ now (weights .exit) ≡ drawWeights (frame (now (numbers .entry)) (now (turnovers .entry)) (now (randoms .entry))) z start (now (panel .entry)) (now (weights .entry)) ⌝ }
 {
-    let g = takeall::find_group(turnovers, z);
-    let mut gaps = [0u64; MOST_FRAME];
-    gaps::fill(turnovers, g, &mut gaps);
-    let reach = shortlist::reach_of(g.n as u64);
-    let found = shortlist::find(turnovers, randoms, &gaps, start, reach, z);
-    if found.sure {
-        writing::write_found(numbers, turnovers, randoms, g, start, found, panel, weights);
-        return g;
+    if turnovers.len() <= SMALL_FRAME {
+        let mut few = [0u64; SMALL_FRAME];
+        return draw_with(
+            numbers,
+            turnovers,
+            randoms,
+            z,
+            start,
+            &mut few,
+            panel,
+            weights,
+        );
     }
-    write_ordered(numbers, turnovers, randoms, &gaps, g, start, panel, weights);
-    g
+    let mut gaps = [0u64; MOST_FRAME];
+    draw_with(
+        numbers,
+        turnovers,
+        randoms,
+        z,
+        start,
+        &mut gaps,
+        panel,
+        weights,
+    )
 }
 
 // Draws z units: writes their numbers, in rising order, and their W into the first z places of the two lent buffers; answers n and X.

@@ -6,7 +6,7 @@ pub mod search;
 
 use fraction::Fraction;
 ghost use mathlib.Core.Path.{_≡_};
-ghost use mathlib.Core.Bool.{true};
+ghost use mathlib.Core.Bool.{true, false};
 ghost use Prim.Native.Nat.{_+_, _*_, _/_, _≤_, _<_};
 ghost use lib.ListN.{length, getD};
 ghost use lib.Dec.{leb};
@@ -228,6 +228,39 @@ fn is_checked(
     many == z
 }
 
+// One unit in sixteen is asked first: where none of them is near, as with random numbers that are not spread, a whole pass would find too few.
+fn is_worth(turnovers: &[u64], randoms: &[u32], gaps: &[u64], start: u32, reach: u64) -> bool
+    requires { ⌜ Units (now turnovers) (now randoms) (now gaps) start × Reach (now turnovers) (now gaps) reach ⌝ }
+{
+    let mut i: usize = 0;
+    while i < turnovers.len() {
+        let key = keys::unit_key(turnovers, randoms, gaps, start, i);
+        if is_near(key, reach) {
+            return true;
+        }
+        i += 16;
+    }
+    false
+}
+
+// Nothing is found.
+fn nothing(reach: u64) -> Found
+    ensures { λ r. ⌜ r .sure ≡ false ⌝ }
+{
+    Found {
+        units: [0usize; ROOM],
+        parts: [0u64; ROOM],
+        count: 0,
+        bound: Bound {
+            reach,
+            scale: 1,
+            part: 0,
+            last: 0,
+        },
+        sure: false,
+    }
+}
+
 // Looks for a bound of z units. It is not sure where the short list is too short or too long, or where the check fails.
 pub fn find(
     turnovers: &[u64],
@@ -240,6 +273,9 @@ pub fn find(
     requires { ⌜ Units (now turnovers) (now randoms) (now gaps) start × Reach (now turnovers) (now gaps) reach ⌝ }
     ensures { λ r. ⌜ (r .sure ≡ true → IsFound (now (turnovers .entry)) (now (randoms .entry)) (now (gaps .entry)) start reach z r) ⌝ }
 {
+    if !is_worth(turnovers, randoms, gaps, start, reach) {
+        return nothing(reach);
+    }
     let list = collect(turnovers, randoms, gaps, start, reach);
     let units = list.units;
     let count = list.count;

@@ -1,74 +1,16 @@
--- The facts of an accepted frame feed each step; what is written, from the short list or in order, is then the definition's.
-use native.Mathlib.Omega.{arith}
-use Prim.Native.Nat.{ℕ, _+_}
-use mathlib.Core.Path.{_≡_, sym, ap, _∙_, subst}
-use mathlib.Core.List.{List, _++_}
-use lib.ListN.{length, getD, drop}
-use Rattle.rules.specs.Limits.{mostPanel}
-use Rattle.rules.specs.TakeAll.{Frame, frame, baseWeight}
-use Rattle.frame.proofs.Accepted.{Accepted, accepted}
-use Rattle.takeall.specs.declared.Group.{Group}
-use Rattle.takeall.specs.Group.{Sized, IsGroup, rulesGroup}
-use Rattle.shortlist.specs.Bound.{Passing}
-use Rattle.shortlist.proofs.Searched.{found-listed, found-passing}
-use Rattle.draw.specs.Sampling.{Ready}
-use Rattle.draw.proofs.Refusals.{frame-accepted, room}
-use Rattle.draw.proofs.Accepted.{frame-sized, own-size, frame-ready, panel-size, numbers-accepted, weights-accepted}
-use Rattle.draw.proofs.ByGaps.{units-of}
-use Rattle.draw.proofs.Short.{reach-at, bounds-at, within-listed, drawn-many}
+-- The room is that of a small frame where the frame is one, and that of the largest where it is not.
+use Rattle.rules.specs.TakeAll.{frame}
+use Rattle.frame.proofs.Accepted.{accepted}
+use Rattle.draw.proofs.Refusals.{frame-accepted}
 use borrow.Author.Needs.{needs}
 use Rattle.draw.proofs.draw_panel.Statement.{statement}
 use Rattle.draw.proofs.draw_panel.Tie as tie
 
--- what the entry's fact gives
-module _ (s : tie.Start) where
-  abbrev f : Frame
-  f = frame (s .args .numbers .now) (s .args .turnovers .now) (s .args .randoms .now)
+slice-aggregate-draw-with : tie.Need-slice-aggregate-draw-with
+slice-aggregate-draw-with c = search needs
 
-  ok : Accepted f (s .args .z) (s .args .start)
-  ok = accepted f (s .args .z) (s .args .start) (frame-accepted f (s .args .z) (s .args .start) (s .args .panel .now) (s .args .weights .now) (s .pre))
-
-  sized : Sized (s .args .turnovers .now) (s .args .z)
-  sized = frame-sized f (s .args .z) (s .args .start) ok
-
-  ready : (g : Group) → IsGroup (s .args .turnovers .now) (s .args .z) g → Ready (s .args .turnovers .now) (s .args .randoms .now) g (s .args .start)
-  ready g k = frame-ready f (s .args .z) (s .args .start) (s .args .start) g ok k (ok .startLow)
-
-find-group-requires : tie.Need-find-group-requires
-find-group-requires c κs = sized (c .before .before .before .before .before)
-
-slice-aggregate-fill : tie.Need-slice-aggregate-fill
-slice-aggregate-fill c = search needs
-
-fill-requires : tie.Need-fill-requires
-fill-requires c κs =
-    let s = c .before .before .before .before .before .before .before in
-    let own = own-size (s .args .turnovers .now) (s .args .z) (c .before .find-group .result) (sized s) (c .before .find-group .ensures) in
-    (own .0, own .1, ok s .units .few)
-
-reach-of-requires : tie.Need-reach-of-requires
-reach-of-requires c κs = ready (c .before .before .before .before .before .before .before .before .before) (c .before .before .before .find-group .result) (c .before .before .before .find-group .ensures) .size-low
-
-slice-aggregate-find : tie.Need-slice-aggregate-find
-slice-aggregate-find c = search needs
-
-find-requires : tie.Need-find-requires
-find-requires c κs =
-    let s = c .before .before .before .before .before .before .before .before .before .before .before in
-    let r = ready s (c .before .before .before .before .before .find-group .result) (c .before .before .before .before .before .find-group .ensures) in
-    (units-of _ _ _ _ _ r (c .before .before .before .fill .ensures), reach-at _ _ _ _ _ _ r (c .before .before .before .fill .ensures) (c .before .reach-of .ensures))
-
-write-found-requires : tie.Need-write-found-requires
-write-found-requires c κs =
-    let s = c .before .before .before .before .before .before .before .before .before .before .before .before .before .before .before in
-    let a = s .args in
-    let g = c .before .before .before .before .before .before .before .before .before .find-group in
-    let fits = room (f s) (a .z) (a .start) (a .panel .now) (a .weights .now) (s .pre) in
-    let size = panel-size (a .turnovers .now) (a .z) (g .result) (g .ensures) in
-    (
-      (ready s (g .result) (g .ensures), subst (λ (n : ℕ). Passing (length (a .turnovers .now)) (c .before .before .before .find .result) n) (sym size) (found-passing _ _ _ _ _ _ _ (c .before .before .before .find .ensures (c .before .before .if1 .taken)))),
-      (ok s .numbersLength, omega (arith, size, fits .0), omega (arith, size, fits .1)),
-    )
+draw-with-requires : tie.Need-draw-with-requires
+draw-with-requires c κs = search needs
 
 same-length : tie.Need-same-length
 same-length c = search needs
@@ -77,42 +19,17 @@ same-length-2 : tie.Need-same-length-2
 same-length-2 c = search needs
 
 returns : tie.Need-returns
-returns c =
-    let s = c .before .before .before .before .before .before .before .before .before .before .before .before .before .before .before .before .before .before .before .before in
-    let a = s .args in
-    let ts = a .turnovers .now in
-    let rs = a .randoms .now in
-    let g = c .before .before .before .before .before .before .before .before .before .before .before .before .before .before .find-group in
-    let r = ready s (g .result) (g .ensures) in
-    let gaps = c .before .before .before .before .before .before .before .before .before .before .before .before .fill .ensures in
-    let found = c .before .before .before .before .before .before .before .before .find .ensures (c .before .before .before .before .before .before .before .if1 .taken) in
-    let size = panel-size ts (a .z) (g .result) (g .ensures) in
-    let bounds = bounds-at ts rs _ (a .start) (a .z) _ (c .before .before .before .before .before .before .before .before .find .result .bound) size (found .bounds) in
-    let many = drawn-many ts rs (g .result) (a .start) _ r gaps (c .before .before .before .before .before .before .before .before .find .result .bound) bounds in
-    let number : ℕ → ℕ = λ i. getD (a .numbers .now) i 0 in
-    let weight : ℕ → ℕ = baseWeight ts (rulesGroup ts (g .result)) in
-    (
-      g .ensures,
-      (
-        c .before .before .before .before .write-found .ensures .0 ∙ ap (λ (xs : List ℕ). xs ++ drop (g .result .q + g .result .n) (a .panel .now)) (found-listed _ _ _ _ _ _ _ found number ∙ within-listed ts rs (g .result) (a .start) _ r gaps (c .before .before .before .before .before .before .before .before .find .result .bound) bounds number) ∙ sym (numbers-accepted (a .numbers .now) ts rs (a .z) (a .start) (a .panel .now) (a .weights .now) (g .result) (s .pre) (g .ensures) many),
-        c .before .before .before .before .write-found .ensures .1 ∙ ap (λ (xs : List ℕ). xs ++ drop (g .result .q + g .result .n) (a .weights .now)) (found-listed _ _ _ _ _ _ _ found weight ∙ within-listed ts rs (g .result) (a .start) _ r gaps (c .before .before .before .before .before .before .before .before .find .result .bound) bounds weight) ∙ sym (weights-accepted (a .numbers .now) ts rs (a .z) (a .start) (a .panel .now) (a .weights .now) (g .result) (s .pre) (g .ensures) many),
-      ),
-    )
+returns c = search needs
 
-slice-aggregate-write-ordered : tie.Need-slice-aggregate-write-ordered
-slice-aggregate-write-ordered c = search needs
+slice-aggregate-draw-with-2 : tie.Need-slice-aggregate-draw-with-2
+slice-aggregate-draw-with-2 c = search needs
 
-write-ordered-requires : tie.Need-write-ordered-requires
-write-ordered-requires c κs =
-    let s = c .before .before .before .before .before .before .before .before .before .before .before .before .before .before .before .before in
+draw-with-requires-2 : tie.Need-draw-with-requires-2
+draw-with-requires-2 c κs =
+    let s = c .before .before .before .before .before .before .before .before .before in
     let a = s .args in
-    let g = c .before .before .before .before .before .before .before .before .before .before .find-group in
-    let fits = room (f s) (a .z) (a .start) (a .panel .now) (a .weights .now) (s .pre) in
-    let size = panel-size (a .turnovers .now) (a .z) (g .result) (g .ensures) in
-    (
-      (ready s (g .result) (g .ensures), c .before .before .before .before .before .before .before .before .fill .ensures, own-size (a .turnovers .now) (a .z) (g .result) (sized s) (g .ensures) .0),
-      (ok s .numbersLength, omega (arith, size, fits .0), omega (arith, size, fits .1)),
-    )
+    let f = frame (a .numbers .now) (a .turnovers .now) (a .randoms .now) in
+    (s .pre, accepted f (a .z) (a .start) (frame-accepted f (a .z) (a .start) (a .panel .now) (a .weights .now) (s .pre)) .units .few)
 
 same-length-3 : tie.Need-same-length-3
 same-length-3 c = search needs
@@ -121,35 +38,19 @@ same-length-4 : tie.Need-same-length-4
 same-length-4 c = search needs
 
 returns-2 : tie.Need-returns-2
-returns-2 c =
-    let s = c .before .before .before .before .before .before .before .before .before .before .before .before .before .before .before .before .before .before .before .before .before in
-    let a = s .args in
-    let g = c .before .before .before .before .before .before .before .before .before .before .before .before .before .before .before .find-group in
-    let w = c .before .before .before .before .write-ordered .ensures in
-    (
-      g .ensures,
-      (
-        w .0 ∙ sym (numbers-accepted (a .numbers .now) (a .turnovers .now) (a .randoms .now) (a .z) (a .start) (a .panel .now) (a .weights .now) (g .result) (s .pre) (g .ensures) (w .1 .1)),
-        w .1 .0 ∙ sym (weights-accepted (a .numbers .now) (a .turnovers .now) (a .randoms .now) (a .z) (a .start) (a .panel .now) (a .weights .now) (g .result) (s .pre) (g .ensures) (w .1 .1)),
-      ),
-    )
+returns-2 c = search needs
 
 pub draw-panel-spec : {M : Type 1} → statement M
 draw-panel-spec =
     tie.close
     (tie.spec
-    find-group-requires
-    slice-aggregate-fill
-    fill-requires
-    reach-of-requires
-    slice-aggregate-find
-    find-requires
-    write-found-requires
+    slice-aggregate-draw-with
+    draw-with-requires
     same-length
     same-length-2
     returns
-    slice-aggregate-write-ordered
-    write-ordered-requires
+    slice-aggregate-draw-with-2
+    draw-with-requires-2
     same-length-3
     same-length-4
     returns-2)

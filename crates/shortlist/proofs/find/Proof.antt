@@ -10,6 +10,15 @@ use borrow.Author.Needs.{needs}
 use Rattle.shortlist.proofs.find.Statement.{statement}
 use Rattle.shortlist.proofs.find.Tie as tie
 
+is-worth-requires : tie.Need-is-worth-requires
+is-worth-requires c κs = c .before .before .before .pre
+
+nothing-requires : tie.Need-nothing-requires
+nothing-requires c κs = tt
+
+returns : tie.Need-returns
+returns c = λ h. absurd (not-both _ h (c .nothing .ensures))
+
 collect-requires : tie.Need-collect-requires
 collect-requires c κs = search needs
 
@@ -20,7 +29,7 @@ slice-aggregate-most-numerator : tie.Need-slice-aggregate-most-numerator
 slice-aggregate-most-numerator c = listed-count _ _ _ _ _ _ (c .before .before .collect .ensures)
 
 most-numerator-requires : tie.Need-most-numerator-requires
-most-numerator-requires c κs = (c .before .before .before .before .before .before .pre .0, listed-placed _ _ _ _ _ _ (c .before .before .collect .ensures))
+most-numerator-requires c κs = (c .before .before .before .before .before .before .before .before .pre .0, listed-placed _ _ _ _ _ _ (c .before .before .collect .ensures))
 
 div-scale : tie.Need-div-scale
 div-scale c = search needs
@@ -32,7 +41,7 @@ slice-aggregate-parts-of : tie.Need-slice-aggregate-parts-of
 slice-aggregate-parts-of c = listed-count _ _ _ _ _ _ (c .before .before .before .before .collect .ensures)
 
 parts-of-requires : tie.Need-parts-of-requires
-parts-of-requires c κs = ((c .before .before .before .before .before .before .before .before .pre .0, listed-placed _ _ _ _ _ _ (c .before .before .before .before .collect .ensures)), (under-scaled _ _ _ _ _ (c .before .most-numerator .ensures .0) (c .before .most-numerator .ensures .1), omega (arith, listed-count _ _ _ _ _ _ (c .before .before .before .before .collect .ensures), c .before .before .before .before .collect .ensures .few)))
+parts-of-requires c κs = ((c .before .before .before .before .before .before .before .before .before .before .pre .0, listed-placed _ _ _ _ _ _ (c .before .before .before .before .collect .ensures)), (under-scaled _ _ _ _ _ (c .before .most-numerator .ensures .0) (c .before .most-numerator .ensures .1), omega (arith, listed-count _ _ _ _ _ _ (c .before .before .before .before .collect .ensures), c .before .before .before .before .collect .ensures .few)))
 
 array-share-prefix-parts : tie.Need-array-share-prefix-parts
 array-share-prefix-parts c = search needs
@@ -68,20 +77,23 @@ slice-aggregate-is-checked-2 : tie.Need-slice-aggregate-is-checked-2
 slice-aggregate-is-checked-2 c = search needs
 
 is-checked-requires : tie.Need-is-checked-requires
-is-checked-requires c κs = (c .before .before .before .before .before .before .before .before .before .before .before .before .before .before .before .before .before .before .pre .0, listed-placed _ _ _ _ _ _ (c .before .before .before .before .before .before .before .before .before .before .before .before .before .before .collect .ensures), omega (arith, listed-count _ _ _ _ _ _ (c .before .before .before .before .before .before .before .before .before .before .before .before .before .before .collect .ensures), c .before .before .before .before .before .before .before .before .before .before .before .before .before .before .collect .ensures .few, c .before .before .before .before .before .before .before .before .before .parts-of .ensures .0))
-
-returns : tie.Need-returns
-returns c =
-    λ h.
-    is-found _ _ _ _ _ _ (c .before .before .before .before .before .before .before .before .before .before .before .before .before .before .before .collect .ensures) _ _ _ _ _ (c .before .before .before .before .before .before .before .before .before .before .before .before .before .before .before .before .before .before .before .pre .0) (c .before .before .before .if1 .taken) (c .before .before .before .before .before .before .before .before .before .before .parts-of .ensures .0) (under-scaled _ _ _ _ _ (c .before .before .before .before .before .before .before .before .before .before .before .before .most-numerator .ensures .0) (c .before .before .before .before .before .before .before .before .before .before .before .before .most-numerator .ensures .1)) (c .before .before .before .before .before .before .before .before .before .before .parts-of .ensures .1) (c .is-checked .ensures h) _
+is-checked-requires c κs = (c .before .before .before .before .before .before .before .before .before .before .before .before .before .before .before .before .before .before .before .before .pre .0, listed-placed _ _ _ _ _ _ (c .before .before .before .before .before .before .before .before .before .before .before .before .before .before .collect .ensures), omega (arith, listed-count _ _ _ _ _ _ (c .before .before .before .before .before .before .before .before .before .before .before .before .before .before .collect .ensures), c .before .before .before .before .before .before .before .before .before .before .before .before .before .before .collect .ensures .few, c .before .before .before .before .before .before .before .before .before .parts-of .ensures .0))
 
 returns-2 : tie.Need-returns-2
-returns-2 c = λ h. absurd (not-both false h refl)
+returns-2 c =
+    λ h.
+    is-found _ _ _ _ _ _ (c .before .before .before .before .before .before .before .before .before .before .before .before .before .before .before .collect .ensures) _ _ _ _ _ (c .before .before .before .before .before .before .before .before .before .before .before .before .before .before .before .before .before .before .before .before .before .pre .0) (c .before .before .before .if2 .taken) (c .before .before .before .before .before .before .before .before .before .before .parts-of .ensures .0) (under-scaled _ _ _ _ _ (c .before .before .before .before .before .before .before .before .before .before .before .before .most-numerator .ensures .0) (c .before .before .before .before .before .before .before .before .before .before .before .before .most-numerator .ensures .1)) (c .before .before .before .before .before .before .before .before .before .before .parts-of .ensures .1) (c .is-checked .ensures h) _
+
+returns-3 : tie.Need-returns-3
+returns-3 c = λ h. absurd (not-both false h refl)
 
 pub find-spec : {M : Type 1} → statement M
 find-spec =
     tie.close
     (tie.spec
+    is-worth-requires
+    nothing-requires
+    returns
     collect-requires
     array-share-prefix-units
     slice-aggregate-most-numerator
@@ -102,5 +114,5 @@ find-spec =
     slice-aggregate-is-checked
     slice-aggregate-is-checked-2
     is-checked-requires
-    returns
-    returns-2)
+    returns-2
+    returns-3)

@@ -101,8 +101,7 @@ loop-again c =
     let h : p (at .j) ≡ true = sym (c .before .is-passed .ensures) ∙ w .0 .taken in
     let l = room p (at .j) (at .k) (a .found .count) (a .g .q + a .g .n) (at .inv .1) h (c .before .before .loop-test .taken) (s .pre .0 .1 .exactly) in
     let before : at .k < length (a .panel .now) = omega (arith, l, s .pre .1 .1) in
-    let behind : at .k < length (a .weights .now) = omega (arith, l, s .pre .1 .2) in
-    (
+    let behind : at .k < length (a .weights .now) = omega (arith, l, s .pre .1 .2) in (
       omega (arith, c .before .before .loop-test .taken),
       w .5 ∙ ap (λ (n : ℕ). n + 1) (at .inv .1) ∙ sym (count-yes p (at .j) h),
       w .3 ∙ list-store p number (a .panel .now) (at .panel) (at .j) (at .k) h (at .inv .2) (at .inv .1) before ∙ ap (λ (n : ℕ). listed p number (at .j + 1) ++ drop n (a .panel .now)) (sym (w .5)),
@@ -111,8 +110,7 @@ loop-again c =
       ap length (w .4) ∙ simp length-set (at .inv .5),
     ))
     (λ w.
-    let h : p (at .j) ≡ false = sym (c .before .is-passed .ensures) ∙ w .0 .left in
-    (
+    let h : p (at .j) ≡ false = sym (c .before .is-passed .ensures) ∙ w .0 .left in (
       omega (arith, c .before .before .loop-test .taken),
       w .3 ∙ at .inv .1 ∙ sym (count-not p (at .j) h),
       w .1 ∙ skipped p number (at .j) (at .k) (a .panel .now) (at .panel) h (at .inv .2) ∙ ap (λ (n : ℕ). listed p number (at .j + 1) ++ drop n (a .panel .now)) (sym (w .3)),
@@ -134,8 +132,7 @@ returns c =
     let a = s .args in
     let at = c .before .loop in
     let e : at .j ≡ a .found .count = omega (arith, at .inv .0, c .loop-test .left) in
-    let size : at .k ≡ a .g .q + a .g .n = at .inv .1 ∙ ap (count (marks (a .found .bound) (a .found .parts) (a .found .units))) e ∙ s .pre .0 .1 .exactly in
-    (
+    let size : at .k ≡ a .g .q + a .g .n = at .inv .1 ∙ ap (count (marks (a .found .bound) (a .found .parts) (a .found .units))) e ∙ s .pre .0 .1 .exactly in (
       at .inv .2 ∙ ap₂ (λ (l n : ℕ). listed (marks (a .found .bound) (a .found .parts) (a .found .units)) (λ m. getD (a .numbers .now) (getD (a .found .units) m 0) 0) l ++ drop n (a .panel .now)) e size,
       at .inv .4 ∙ ap₂ (λ (l n : ℕ). listed (marks (a .found .bound) (a .found .parts) (a .found .units)) (λ m. baseWeight (a .turnovers .now) (rulesGroup (a .turnovers .now) (a .g)) (getD (a .found .units) m 0)) l ++ drop n (a .weights .now)) e size,
     )
