@@ -76,6 +76,33 @@ def test_large_draw(t):
         t.check(library.draw(**case.data) == expected, "large frames: the library draws the same panel", repeat=case.what)
 
 
+def test_near_draw(t):
+    """Frames of a few hundred units and more, of each kind that the search among the smallest keys could stumble on."""
+    for case in generate.near_draw_cases(t.seed, t.count(2, 80)):
+        expected = frame.draw(**case.data)
+        t.check(library.draw(**case.data) == expected, "near keys: the library draws the same panel", repeat=case.what)
+
+
+def near_rotations(seed, count):
+    """Near frames as rotations of a panel that was drawn from them."""
+    for case in generate.near_draw_cases(seed, count):
+        if len(case.data["numbers"]) > 1_025:
+            continue
+        data = {name: case.data[name] for name in ("numbers", "turnovers", "randoms", "z")}
+        drawn = library.draw(**case.data)
+        old_panel = drawn[1][: case.data["z"]]
+        yield case.what, dict(data, old_start=case.data["start"], old_panel=old_panel, f=20, out_leavers=[7] * 101)
+
+
+def test_near_rotate(t):
+    """Rotations of the same frames, by a few starts."""
+    for what, data in near_rotations(t.seed, t.count(1, 12)):
+        expected, leavers = rotation_of(data)
+        answer, buffer = library.rotate(**data)
+        t.check(answer == expected, "near keys: the library rotates alike", repeat=what)
+        t.check(frame.same_leavers(buffer, data["out_leavers"], leavers), "near keys: the same leavers", repeat=what)
+
+
 def rotation_of(data):
     answer, leavers, _ = frame.rotate(**data)
     return answer, leavers

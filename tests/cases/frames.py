@@ -332,6 +332,43 @@ def large_draw_cases(rng, count):
         yield 0, "16,384 units", data
 
 
+def spread(rng, units):
+    """Random numbers as a register has them: uniform, and none twice but by chance."""
+    return [rng.randrange(1_000_000) for _ in range(units)]
+
+
+def near_draws(rng):
+    """Frames by what they are to a search that looks only at the units with small keys: (what, units, turnovers, randoms)."""
+    units = rng.choice([300, 1_023, 1_024, 1_025, 2_000])
+    even = [10**9 // units] * units
+    yield "spread random numbers", units, plain(rng, units), spread(rng, units)
+    yield "heavy tail", units, heavy_tail(rng, units), spread(rng, units)
+    yield "ties all over", units, even, [rng.randrange(40) * 25_000 for _ in range(units)]
+    yield "ties among the smallest", units, even, [rng.randrange(20) * 50 for _ in range(units)]
+    yield "nobody near", units, even, [500_000 + rng.randrange(400_000) for _ in range(units)]
+    yield "everybody at 0", units, even, [0] * units
+    yield "300 units at 0", units, even, [0] * 300 + spread(rng, units - 300)
+    yield "falling random numbers", units, even, [999_999 - i * (1_000_000 // units) for i in range(units)]
+    yield "neighbouring keys", units, [10**6 + i for i in range(units)], [100 + i % 3 for i in range(units)]
+
+
+@cases
+def near_draw_cases(rng, count):
+    """Draws from frames of 300 to 2,000 units, of each kind that a search among the smallest keys could stumble on: no refusals."""
+    for number in range(count):
+        for what, units, turnovers, randoms in near_draws(rng):
+            z = [100, 40, 1, rng.randrange(2, 100)][number % 4]
+            yield 0, what, {
+                "numbers": unit_numbers(rng, units),
+                "turnovers": turnovers,
+                "randoms": randoms,
+                "z": z,
+                "start": rng.choice([0, 999_999, rng.randrange(1_000_000)]),
+                "out_numbers": junk(rng, 101, U32),
+                "out_weights": junk(rng, 101, U64),
+            }
+
+
 # Take-all alone
 
 

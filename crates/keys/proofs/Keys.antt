@@ -17,7 +17,6 @@ use Rattle.selection.proofs.Orders.{Order, KeyOrder, key-order, order-among}
 use Rattle.fraction.proofs.Cross.{by-test}
 use Rattle.fraction.proofs.Order.{asymmetric, not-below-transitive}
 use Rattle.frame.proofs.Accepted.{Accepted}
-use Rattle.keys.specs.Terms.{termsOf}
 
 -- a shifted number is in the range of the random number, whatever the start
 pub shifted-low : (start random : ℕ) → random < randomRange → shifted start random < randomRange
@@ -26,11 +25,6 @@ shifted-low start random low =
     by-test (ltb random start)
     (λ e. let before : random < start = ltb-true random start e in rw e (omega arith))
     (λ e. rw e (omega arith))
-
--- the numerator depends on X and n alone
-pub terms-decide : (g : Group) (t r : ℕ) → keyNumerator (termsOf (g .rest) (g .sampleSize)) t r ≡ keyNumerator g t r
-unfolding keyNumerator
-terms-decide g t r = refl
 
 -- "1,000,000 − r" and the turnover are positive, so the denominator is
 pub denominator-positive : (t r : ℕ) → 0 < t → r < randomRange → 0 < keyDenominator t r

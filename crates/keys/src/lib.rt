@@ -6,8 +6,7 @@ ghost use mathlib.Core.Path.{_≡_};
 ghost use Prim.Native.Nat.{_-_, _*_, _<_, _≤_};
 ghost use lib.ListN.{length};
 ghost use Rattle.rules.specs.Limits.{mostTurnover, randomRange, mostPanel};
-ghost use Rattle.rules.specs.Draw.{shifted, keyNumerator, keyDenominator};
-ghost use Rattle.keys.specs.Terms.{termsOf};
+ghost use Rattle.rules.specs.Draw.{shifted, keyDenominator};
 ghost use Rattle.keys.specs.Units.{Units, UnitKey};
 
 // A unit's random number as drawn, R: permanent, the same under every start.
@@ -41,7 +40,7 @@ pub fn gap(turnover: u64, rest: u64, size: u64) -> u64
     rest - reached
 }
 
-// r × gap over (1,000,000 − r) × turnover.
+// "r × (X − n × turnover) over (1,000,000 − r) × turnover" (formula 22 without the common factor n), where the gap is known.
 pub fn key_over(turnover: u64, r: Shifted, gap: u64) -> Fraction
     requires { ⌜ (turnover ≤ mostTurnover) × (r .0 < randomRange) × (gap ≤ mostTurnover) ⌝ }
     ensures { λ k. ⌜ (k .num ≡ r .0 * gap) × (k .den ≡ keyDenominator turnover (r .0)) ⌝ }
@@ -52,15 +51,6 @@ pub fn key_over(turnover: u64, r: Shifted, gap: u64) -> Fraction
         num: near * gap,
         den: far * turnover,
     }
-}
-
-// "r × (X − n × turnover) over (1,000,000 − r) × turnover" (formula 22 without the common factor n).
-pub fn key(turnover: u64, r: Shifted, rest: u64, size: u64) -> Fraction
-    requires { ⌜ (turnover ≤ mostTurnover) × (r .0 < randomRange) × (rest ≤ mostTurnover) × (size ≤ mostPanel) ⌝ }
-    ensures { λ k. ⌜ (k .num ≡ keyNumerator (termsOf rest size) turnover (r .0)) × (k .den ≡ keyDenominator turnover (r .0)) ⌝ }
-{
-    let over = gap(turnover, rest, size);
-    key_over(turnover, r, over)
 }
 
 // The key of unit i, of which the gap is known.

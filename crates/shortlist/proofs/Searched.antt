@@ -19,7 +19,7 @@ use Rattle.keys.proofs.Keys.{shifted-low, denominator-positive}
 use Rattle.shortlist.specs.declared.Bound.{Bound}
 use Rattle.shortlist.specs.declared.Shortlist.{Shortlist}
 use Rattle.shortlist.specs.declared.Found.{Found}
-use Rattle.shortlist.specs.Bound.{near, partOf, mostWord, Listed, Placed, Under, Scaled, Parts, Checked, IsFound, passes, passing, within, Passing}
+use Rattle.shortlist.specs.Bound.{listRoom, near, partOf, mostWord, Listed, Placed, Under, Scaled, Parts, Checked, IsFound, passes, passing, within, Passing}
 use Rattle.shortlist.proofs.Bounded.{checked-bounds}
 
 pub unit-positive : (ts rs gs : List ℕ) (start : ℕ) → Units ts rs gs start → (i : ℕ) → i < length ts → 0 < denOf ts rs start i
@@ -45,7 +45,7 @@ module _ (ts rs gs : List ℕ) (start reach : ℕ) (r : Shortlist) (h : Listed t
           omega (arith, ap (λ (xs : List ℕ). getD xs j 0) (h .units-are), under, h .within-frame)
 
   -- a checked bound, where the whole frame was seen
-  pub is-found : (scale part last z : ℕ) (parts : List ℕ) → Units ts rs gs start → r .seen ≡ length ts → length parts ≡ 256 → Scaled rs gs start (take (r .count) (r .units)) scale → Parts ts rs gs start scale (take (r .count) (r .units)) parts → Checked ts rs gs start (take (r .count) (r .units)) parts (record { reach = reach; scale = scale; part = part; last = last }) z → (sure : Bool) → IsFound ts rs gs start reach z (record { units = r .units; parts = parts; count = r .count; bound = record { reach = reach; scale = scale; part = part; last = last }; sure = sure })
+  pub is-found : (scale part last z : ℕ) (parts : List ℕ) → Units ts rs gs start → r .seen ≡ length ts → length parts ≡ listRoom → Scaled rs gs start (take (r .count) (r .units)) scale → Parts ts rs gs start scale (take (r .count) (r .units)) parts → Checked ts rs gs start (take (r .count) (r .units)) parts (record { reach = reach; scale = scale; part = part; last = last }) z → (sure : Bool) → IsFound ts rs gs start reach z (record { units = r .units; parts = parts; count = r .count; bound = record { reach = reach; scale = scale; part = part; last = last }; sure = sure })
   is-found scale part last z parts ok seen room fit laid checked sure = record {
     reach-is = refl;
     bounds = checked-bounds ts rs gs start z b (unit-positive ts rs gs start ok) (r .units) parts (r .count) many are laid fit checked;

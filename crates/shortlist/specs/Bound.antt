@@ -40,14 +40,18 @@ within ts rs gs start b i = near ts rs gs start (b .reach) i and passes b (partO
 pub record Reach (ts gs : List ℕ) (reach : ℕ) : Type 0 where
   pub low : (i : ℕ) → i < length ts → 0 < getD gs i 0 → reach * turnover ts i ≤ 10 * mostTurnover
 
+-- units on a short list
+abbrev pub listRoom : ℕ
+listRoom = 256
+
 -- the largest number of 64 bits
 abbrev pub mostWord : ℕ
 mostWord = 18446744073709551615
 
 -- the short-listed among the first `seen` units, in the order of their numbers
 pub record Listed (ts rs gs : List ℕ) (start reach : ℕ) (r : Shortlist) : Type 0 where
-  pub room : length (r .units) ≡ 256
-  pub few : r .count ≤ 256
+  pub room : length (r .units) ≡ listRoom
+  pub few : r .count ≤ listRoom
   pub within-frame : r .seen ≤ length ts
   pub many : r .count ≡ count (near ts rs gs start reach) (r .seen)
   pub units-are : take (r .count) (r .units) ≡ listed (near ts rs gs start reach) (λ i. i) (r .seen)
@@ -92,9 +96,9 @@ pub record Bounds (ts rs gs : List ℕ) (start z : ℕ) (b : Bound) : Type 0 whe
 pub record IsFound (ts rs gs : List ℕ) (start reach z : ℕ) (r : Found) : Type 0 where
   pub reach-is : r .bound .reach ≡ reach
   pub bounds : Bounds ts rs gs start z (r .bound)
-  pub units-room : length (r .units) ≡ 256
-  pub parts-room : length (r .parts) ≡ 256
-  pub few : r .count ≤ 256
+  pub units-room : length (r .units) ≡ listRoom
+  pub parts-room : length (r .parts) ≡ listRoom
+  pub few : r .count ≤ listRoom
   pub many : r .count ≡ count (near ts rs gs start reach) (length ts)
   pub units-are : take (r .count) (r .units) ≡ listed (near ts rs gs start reach) (λ i. i) (length ts)
   pub parts-are : (j : ℕ) → j < r .count → getD (r .parts) j 0 ≡ partOf ts rs gs start (r .bound .scale) (getD (r .units) j 0)
@@ -105,8 +109,8 @@ passing r j = passes (r .bound) (getD (r .parts) j 0) (getD (r .units) j 0)
 
 -- what is found as a list: units of a frame of n, of which z pass
 pub record Passing (n : ℕ) (r : Found) (z : ℕ) : Type 0 where
-  pub units-room : length (r .units) ≡ 256
-  pub parts-room : length (r .parts) ≡ 256
-  pub few : r .count ≤ 256
+  pub units-room : length (r .units) ≡ listRoom
+  pub parts-room : length (r .parts) ≡ listRoom
+  pub few : r .count ≤ listRoom
   pub low : (j : ℕ) → j < r .count → getD (r .units) j 0 < n
   pub exactly : count (passing r) (r .count) ≡ z

@@ -13,7 +13,7 @@ ghost use lib.Dec.{leb};
 ghost use Rattle.rules.specs.Limits.{mostTurnover, randomRange, mostPanel};
 ghost use Rattle.keys.specs.Units.{Units, numOf};
 ghost use Rattle.rules.specs.Draw.{fractionBelow};
-ghost use Rattle.shortlist.specs.Bound.{near, within, passes, Reach, Listed, Placed, Under, Scaled, Parts, Apart, Checked, Bounds, IsFound, mostWord};
+ghost use Rattle.shortlist.specs.Bound.{near, within, passes, Reach, Listed, Placed, Under, Scaled, Parts, Apart, Checked, Bounds, IsFound, listRoom, mostWord};
 
 // Units on a short list.
 pub const ROOM: usize = 256;
@@ -133,8 +133,8 @@ fn parts_of(
     units: &[usize],
 ) -> [u64; 256]
     requires { ⌜ Units (now turnovers) (now randoms) (now gaps) start × Placed (length (now turnovers)) (now units) ⌝ }
-    requires { ⌜ Scaled (now randoms) (now gaps) start (now units) scale × (length (now units) ≤ 256) ⌝ }
-    ensures { λ r. ⌜ (length r ≡ 256) × Parts (now (turnovers .entry)) (now (randoms .entry)) (now (gaps .entry)) start scale (now (units .entry)) r ⌝ }
+    requires { ⌜ Scaled (now randoms) (now gaps) start (now units) scale × (length (now units) ≤ listRoom) ⌝ }
+    ensures { λ r. ⌜ (length r ≡ listRoom) × Parts (now (turnovers .entry)) (now (randoms .entry)) (now (gaps .entry)) start scale (now (units .entry)) r ⌝ }
 {
     let mut parts = [0u64; ROOM];
     let mut j: usize = 0;

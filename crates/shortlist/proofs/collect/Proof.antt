@@ -5,7 +5,7 @@ use mathlib.Core.Path.{_≡_, refl, sym, ap, _∙_, subst}
 use mathlib.Core.Logic.{⊎-elim}
 use mathlib.Core.List.{List}
 use lib.ListN.{length, getD, set, length-set}
-use Rattle.shortlist.specs.Bound.{near, Listed}
+use Rattle.shortlist.specs.Bound.{listRoom, near, Listed}
 use Rattle.shortlist.proofs.Terms.{near-is, reach-low}
 use Rattle.shortlist.proofs.Listing.{Held, held-none, held-not, held-more, held-same}
 use borrow.Author.Needs.{needs}
@@ -13,13 +13,13 @@ use Rattle.shortlist.proofs.collect.Statement.{statement}
 use Rattle.shortlist.proofs.collect.Tie as tie
 
 abbrev Inv-loop : tie.InvT-loop
-Inv-loop turnovers randoms gaps start reach units₀ count₀ i₀ units count i = (i ≤ length turnovers) × (count ≤ 256) × (length units ≡ 256) × Held (near turnovers randoms gaps start reach) i units count
+Inv-loop turnovers randoms gaps start reach units₀ count₀ i₀ units count i = (i ≤ length turnovers) × (count ≤ listRoom) × (length units ≡ listRoom) × Held (near turnovers randoms gaps start reach) i units count
 
 abbrev μ-loop : tie.MeasureT-loop
 μ-loop turnovers randoms gaps start reach units₀ count₀ i₀ units count i = length turnovers - i
 
 -- what is held after i units is the list of them
-listed-by : (ts rs gs : List ℕ) (start reach : ℕ) (units : List ℕ) (n i : ℕ) → (i ≤ length ts) × (n ≤ 256) × (length units ≡ 256) × Held (near ts rs gs start reach) i units n → Listed ts rs gs start reach (record { units = units; count = n; seen = i })
+listed-by : (ts rs gs : List ℕ) (start reach : ℕ) (units : List ℕ) (n i : ℕ) → (i ≤ length ts) × (n ≤ listRoom) × (length units ≡ listRoom) × Held (near ts rs gs start reach) i units n → Listed ts rs gs start reach (record { units = units; count = n; seen = i })
 listed-by ts rs gs start reach units n i h = record { room = h .2; few = h .1; within-frame = h .0; many = h .3 .many; units-are = h .3 .units-are }
 
 loop-holds : tie.Need-loop-holds Inv-loop μ-loop

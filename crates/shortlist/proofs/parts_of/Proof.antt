@@ -8,7 +8,7 @@ use native.Mathlib.Nat.{not-suc-le-zero, eq-or-lt-of-le, le-of-suc-le-suc}
 use native.Mathlib.Numerals.{add-one}
 use lib.ListN.{length, getD, set, length-set}
 use lib.Seq.{getD-set-same, getD-set-other}
-use Rattle.shortlist.specs.Bound.{partOf, mostWord, Parts}
+use Rattle.shortlist.specs.Bound.{listRoom, partOf, mostWord, Parts}
 use Rattle.shortlist.proofs.Terms.{part-is}
 use borrow.Author.Needs.{needs}
 use Rattle.shortlist.proofs.parts_of.Statement.{statement}
@@ -33,7 +33,7 @@ all : (ts rs gs : List ℕ) (start scale : ℕ) (units parts : List ℕ) (j : �
 all ts rs gs start scale units parts j l room s = record { room = room; at = λ k m. s .at k (omega arith) }
 
 abbrev Inv-loop : tie.InvT-loop
-Inv-loop turnovers randoms gaps start scale units parts₀ j₀ parts j = (j ≤ length units) × (length parts ≡ 256) × Laid turnovers randoms gaps start scale units parts j
+Inv-loop turnovers randoms gaps start scale units parts₀ j₀ parts j = (j ≤ length units) × (length parts ≡ listRoom) × Laid turnovers randoms gaps start scale units parts j
 
 abbrev μ-loop : tie.MeasureT-loop
 μ-loop turnovers randoms gaps start scale units parts₀ j₀ parts j = length units - j
