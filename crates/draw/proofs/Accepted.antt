@@ -17,7 +17,7 @@ use Rattle.selection.proofs.Places.{ranked-short}
 use Rattle.selection.proofs.TakeAll.{size-le, rest-le, outside-count}
 use Rattle.takeall.specs.declared.Group.{Group}
 use Rattle.takeall.specs.Group.{Sized, IsGroup, rulesGroup}
-use Rattle.draw.specs.Sampling.{outside, keyOrder, Ready}
+use Rattle.ranking.specs.Sampling.{outside, keyOrder, Ready}
 use Rattle.draw.specs.Panel.{Arrays}
 use Rattle.draw.proofs.Panel.{drawn, drawn-any}
 

@@ -1,8 +1,4 @@
-pub mod Sampling
-pub mod ByGaps
-pub mod Terms
 pub mod Next
-pub mod Joining
 pub mod Refusals
 pub mod Panel
 pub mod Accepted

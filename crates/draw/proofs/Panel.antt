@@ -19,9 +19,9 @@ use Rattle.selection.proofs.TakeAll.{larger-order}
 use Rattle.selection.proofs.Panel.{panel-parts}
 use Rattle.takeall.specs.declared.Group.{Group}
 use Rattle.takeall.specs.Group.{rulesGroup}
-use Rattle.draw.specs.Sampling.{unnumbered, outside, keyOrder, Ready}
+use Rattle.ranking.specs.Sampling.{unnumbered, outside, keyOrder, Ready}
 use Rattle.draw.specs.Panel.{Next, Arrays}
-use Rattle.draw.proofs.Sampling.{key-is-order, sampled-is}
+use Rattle.ranking.proofs.Sampling.{key-is-order, sampled-is}
 
 -- in the panel, in the words of the code: one of the q largest, or sampled
 abbrev pub drawn : List ℕ → List ℕ → Group → ℕ → ℕ → Bool

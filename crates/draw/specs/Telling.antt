@@ -6,7 +6,7 @@ use Prim.Native.Nat.{ℕ, _+_, _/_}
 use Rattle.takeall.specs.declared.Group.{Group}
 use Rattle.shortlist.specs.Bound.{Reach, Bounds}
 use Rattle.draw.specs.declared.told.Told.{Told}
-use Rattle.draw.specs.Sampling.{IsThreshold}
+use Rattle.ranking.specs.Sampling.{IsThreshold}
 
 pub record Tells (ts rs gs : List ℕ) (g : Group) (start : ℕ) (s : Told) : Type 0 where
   pub by-bound : s .sure ≡ true → Bounds ts rs gs start (g .q + g .n) (s .bound)

@@ -1,6 +1,4 @@
 // The draw (document 01, "Frame and weights" and "Draw"; 001, section 2.3 and formulas 21 and 22): a panel of z units of a frame, under a start.
-pub mod gaps;
-pub mod ranking;
 pub mod told;
 pub mod writing;
 
@@ -17,8 +15,8 @@ ghost use Rattle.rules.specs.TakeAll.{frame, baseWeight};
 ghost use Rattle.rules.specs.Draw.{drawnBy, frameRefusal, drawRefusal, drawAnswer, drawNumbers, drawWeights};
 ghost use Rattle.refusals.specs.Number.{verdictOf};
 ghost use Rattle.takeall.specs.Group.{Sized, IsGroup, rulesGroup};
-ghost use Rattle.draw.specs.Sampling.{unnumbered, Ready};
-ghost use Rattle.draw.specs.Gaps.{Gaps};
+ghost use Rattle.ranking.specs.Sampling.{unnumbered, Ready};
+ghost use Rattle.ranking.specs.Gaps.{Gaps};
 ghost use Rattle.draw.specs.Answer.{answerOf};
 
 // Units of a small frame: as many as a job holds.
@@ -106,7 +104,7 @@ fn draw_with(
     ensures { λ _. ⌜ now (weights .exit) ≡ drawWeights (frame (now (numbers .entry)) (now (turnovers .entry)) (now (randoms .entry))) z start (now (panel .entry)) (now (weights .entry)) ⌝ }
 {
     let g = takeall::find_group(turnovers, z);
-    gaps::fill(turnovers, g, gaps);
+    ranking::gaps::fill(turnovers, g, gaps);
     let reach = shortlist::reach_of(g.n as u64);
     let found = shortlist::find(turnovers, randoms, gaps, start, reach, z);
     if found.sure {

@@ -3,13 +3,13 @@
 // under its start and holds each member against it.
 pub mod judge;
 
-use draw::gaps;
 use draw::told;
 use frame::MOST_FRAME;
 use frame::MOST_PANEL;
 use frame::RANDOM_RANGE;
 use judge::FRACTION_SCALE;
 use members::Places;
+use ranking::gaps;
 use refusals::Refusal;
 use refusals::Verdict;
 use takeall::Group;
@@ -24,7 +24,7 @@ ghost use Rattle.members.specs.Places.{Holding};
 ghost use Rattle.rotation.specs.Leaving.{memberLeaves, firstStep, inPlaceOrder};
 ghost use Rattle.rotation.specs.Answer.{answerOf, Written};
 ghost use Rattle.rotation.specs.Judge.{earlyRefusal};
-ghost use Rattle.draw.specs.Sampling.{unnumbered};
+ghost use Rattle.ranking.specs.Sampling.{unnumbered};
 ghost use Rattle.rotation.specs.Search.{Within, Searched};
 
 // Steps that are tried, 0 to 999.

@@ -1,0 +1,4 @@
+pub mod Sampling
+pub mod ByGaps
+pub mod Terms
+pub mod Joining
