@@ -48,23 +48,23 @@ two-words-requires-2 c κs = omega (arith, rw (c .match .keys5) at (c .before .b
 
 returns : tie.Need-returns
 unfolding commandOf
-returns c = rw (c .before .before .before .match .keys1) (cc)
+returns c = rw (c .before .before .before .match .keys1, c .before .before .word .ensures, c .before .two-words .ensures, c .word2 .ensures)
 
 returns-2 : tie.Need-returns-2
 unfolding commandOf
-returns-2 c = rw (c .before .before .match .keys2) (cc (byte (c .before .before .before .before .args .s .now) 1))
+returns-2 c = rw (c .before .before .match .keys2, byte (c .before .before .before .before .args .s .now) 1, c .word3 .ensures)
 
 returns-3 : tie.Need-returns-3
 unfolding commandOf
-returns-3 c = rw (c .before .before .match .keys3) (cc (byte (c .before .before .before .before .args .s .now) 1))
+returns-3 c = rw (c .before .before .match .keys3, byte (c .before .before .before .before .args .s .now) 1, c .two-bytes .ensures)
 
 returns-4 : tie.Need-returns-4
 unfolding commandOf
-returns-4 c = rw (c .before .before .match .keys4) (cc (byte (c .before .before .before .before .args .s .now) 1))
+returns-4 c = rw (c .before .before .match .keys4, byte (c .before .before .before .before .args .s .now) 1, c .word4 .ensures)
 
 returns-5 : tie.Need-returns-5
 unfolding commandOf
-returns-5 c = rw (c .before .match .keys5) (cc)
+returns-5 c = rw (c .before .match .keys5, c .two-words2 .ensures)
 
 returns-6 : tie.Need-returns-6
 unfolding commandOf
