@@ -6,8 +6,9 @@ use lib.ListN.{getD, drop}
 use Rattle.rules.specs.Stream.{Command, Reading, widthOf, reading, restOf}
 use Rattle.stream.specs.Value.{takenBy, takenOf}
 use Rattle.stream.proofs.Unread.{rest-is}
-use Rattle.vougecress.specs.declared.streams.Read.{Read}
-use Rattle.vougecress.specs.Streams.{commandRead, readFrom}
+use Rattle.boundary.specs.declared.reads.Read.{Read}
+use Rattle.boundary.specs.Reads.{commandRead}
+use Rattle.vougecress.specs.Streams.{readFrom}
 
 command-takes : (c : Command) (n : ℕ) → commandRead c n .taken ≡ n
 command-takes (Command.unit a b d) n = refl

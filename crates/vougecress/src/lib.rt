@@ -2,38 +2,19 @@
 // refusal as document 01's number in `refusal` (0: accepted; every other field but a run's length is 0 after a refusal).
 // include/vougecress.h documents each function for its caller.
 pub mod frames;
-pub mod record;
 pub mod rotates;
 pub mod streams;
 
-use chain::Answer;
+use boundary::Figure;
+use boundary::figure_of;
+use boundary::record;
 use opening::Opening;
 use total::TotalAnswer;
 ghost use mathlib.Core.Path.{_≡_};
 ghost use Rattle.rules.specs.Chain.{Call};
-ghost use Rattle.chain.specs.Record.{answerFrom};
 ghost use Rattle.rules.specs.Total.{totalAnswer};
 ghost use Rattle.vougecress.specs.Record.{openedNumber, openedList, listAnswer, listAfter};
-ghost use Rattle.vougecress.specs.Answers.{figureFrom, sumFrom};
-
-// The answer of a quarter, a close or a total.
-#[repr(C)]
-pub struct Figure {
-    pub refusal: u32,
-    pub figure: u64,
-}
-
-fn figure_of(answer: Answer) -> Figure
-    ensures { λ r. ⌜ r ≡ figureFrom (answerFrom answer) ⌝ }
-{
-    match answer {
-        Answer::Figure(figure) => Figure { refusal: 0, figure },
-        Answer::Refused(why) => Figure {
-            refusal: why.number() as u32,
-            figure: 0,
-        },
-    }
-}
+ghost use Rattle.boundary.specs.Figures.{figureFrom, sumFrom};
 
 // Opens a chain in a lent record.
 #[no_mangle]

@@ -7,8 +7,9 @@ use Rattle.rules.specs.Chain.{openRefusal, openRecord, openAnswer}
 use Rattle.chain.specs.Record.{recordOf}
 use Rattle.opening.specs.Opened.{openingBy}
 use Rattle.opening.specs.declared.Opening.{Opening}
-use Rattle.vougecress.specs.Record.{recordPlaces, openedNumber, openedList}
-use Rattle.vougecress.proofs.Places.{refused-laid, opened-laid}
+use Rattle.boundary.specs.Record.{recordPlaces}
+use Rattle.vougecress.specs.Record.{openedNumber, openedList}
+use Rattle.boundary.proofs.Places.{refused-laid, opened-laid}
 use borrow.Author.Needs.{needs}
 use Rattle.vougecress.proofs.vougecress_open.Statement.{statement}
 use Rattle.vougecress.proofs.vougecress_open.Tie as tie

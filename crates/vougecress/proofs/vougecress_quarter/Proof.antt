@@ -7,8 +7,9 @@ use lib.ListN.{length, drop}
 use lib.Dec.{ltb}
 use Rattle.rules.specs.Chain.{Chain, Call, Answer, answerOf, after}
 use Rattle.chain.specs.Record.{recordOf, answerFrom}
-use Rattle.vougecress.specs.Answers.{figureFrom}
-use Rattle.vougecress.specs.Record.{recordPlaces, recordIn, recordList, listAnswer, listAfter}
+use Rattle.boundary.specs.Figures.{figureFrom}
+use Rattle.boundary.specs.Record.{recordPlaces, recordIn, recordList}
+use Rattle.vougecress.specs.Record.{listAnswer, listAfter}
 use borrow.Author.Needs.{needs}
 use Rattle.vougecress.proofs.vougecress_quarter.Statement.{statement}
 use Rattle.vougecress.proofs.vougecress_quarter.Tie as tie

@@ -2,7 +2,7 @@
 use mathlib.Core.Path.{_≡_, sym, ap, _∙_}
 use Rattle.total.specs.declared.TotalAnswer.{TotalAnswer}
 use Rattle.total.specs.Answer.{totalFrom}
-use Rattle.vougecress.specs.Answers.{sumFrom}
+use Rattle.boundary.specs.Figures.{sumFrom}
 use borrow.Author.Needs.{needs}
 use Rattle.vougecress.proofs.vougecress_total.Statement.{statement}
 use Rattle.vougecress.proofs.vougecress_total.Tie as tie

@@ -1,7 +1,8 @@
 -- `vougecress_read`: what is read as the interface gives it, in each arm with the bytes that `taken` answers.
 use mathlib.Core.Path.{sym, ap, ap₂, _∙_}
 use Rattle.stream.specs.Value.{readingFrom}
-use Rattle.vougecress.specs.Streams.{nothingRead, readFrom}
+use Rattle.boundary.specs.Reads.{nothingRead}
+use Rattle.vougecress.specs.Streams.{readFrom}
 use Rattle.vougecress.proofs.Readings.{reads}
 use borrow.Author.Needs.{needs}
 use Rattle.vougecress.proofs.streams.vougecress_read.Statement.{statement}

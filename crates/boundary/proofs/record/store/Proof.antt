@@ -5,10 +5,10 @@ use native.Mathlib.Omega.{arith}
 use lib.ListN.{length, set, length-set, length-take, length-drop}
 use Rattle.rules.specs.Limits.{mostPanel}
 use borrow.Rule.Slice.PartMut.{same-len-mid}
-use Rattle.vougecress.proofs.Places.{laid}
+use Rattle.boundary.proofs.Places.{laid}
 use borrow.Author.Needs.{needs}
-use Rattle.vougecress.proofs.record.store.Statement.{statement}
-use Rattle.vougecress.proofs.record.store.Tie as tie
+use Rattle.boundary.proofs.record.store.Statement.{statement}
+use Rattle.boundary.proofs.record.store.Tie as tie
 
 slice-write-lent : tie.Need-slice-write-lent
 slice-write-lent c = search needs

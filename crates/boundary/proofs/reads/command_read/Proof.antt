@@ -3,10 +3,10 @@ use mathlib.Core.Path.{_≡_, sym, ap, _∙_}
 use Prim.Native.Nat.{ℕ}
 use Rattle.stream.specs.declared.Command.{Command}
 use Rattle.stream.specs.Value.{commandFrom}
-use Rattle.vougecress.specs.Streams.{commandRead}
+use Rattle.boundary.specs.Reads.{commandRead}
 use borrow.Author.Needs.{needs}
-use Rattle.vougecress.proofs.streams.command_read.Statement.{statement}
-use Rattle.vougecress.proofs.streams.command_read.Tie as tie
+use Rattle.boundary.proofs.reads.command_read.Statement.{statement}
+use Rattle.boundary.proofs.reads.command_read.Tie as tie
 
 read-of : {x y : Command} (taken : ℕ) → x ≡ y → commandRead (commandFrom y) taken ≡ commandRead (commandFrom x) taken
 read-of taken e = ap (λ (command : Command). commandRead (commandFrom command) taken) (sym e)

@@ -6,10 +6,10 @@ use native.Mathlib.Omega.{arith}
 use native.Mathlib.Numerals.{add-one}
 use lib.ListN.{length, getD, take, drop, set, length-set}
 use lib.Seq.{take-all, take-suc, take-suc-set}
-use Rattle.vougecress.proofs.record.copy.Statement.{statement}
-use Rattle.vougecress.proofs.record.copy.Tie as tie
-use Rattle.vougecress.proofs.record.copy.Reads as reads
-use Rattle.vougecress.proofs.record.copy.Lts as lts
+use Rattle.boundary.proofs.record.copy.Statement.{statement}
+use Rattle.boundary.proofs.record.copy.Tie as tie
+use Rattle.boundary.proofs.record.copy.Reads as reads
+use Rattle.boundary.proofs.record.copy.Lts as lts
 
 abbrev Inv-loop : tie.InvT-loop
 Inv-loop from to₀ i₀ to i = (i ≤ length from) × (length to ≡ length to₀) × (take i to ≡ take i from)

@@ -5,7 +5,7 @@ use Prim.Native.Nat.{ℕ, zero, suc, _≤_}
 use native.Mathlib.Omega.{arith}
 use lib.ListN.{length, drop, set}
 use Rattle.rules.specs.Chain.{Chain, Opening, openBy}
-use Rattle.vougecress.specs.Record.{recordPlaces, recordList, laidBy}
+use Rattle.boundary.specs.Record.{recordPlaces, recordList, laidBy}
 use borrow.Rule.Slice.PartMut.{putMid, postOf}
 
 pub laid : (e w : List ℕ) (a b c : ℕ) → 3 ≤ length e → putMid 3 100 (set (set (set e 0 a) 1 b) 2 c) w ≡ a ∷ b ∷ c ∷ (w ++ drop 103 e)

@@ -5,7 +5,7 @@ ghost use mathlib.Core.List.{_++_};
 ghost use Prim.Native.Nat.{_≤_};
 ghost use lib.ListN.{length, take, drop};
 ghost use Rattle.chain.specs.Record.{recordOf};
-ghost use Rattle.vougecress.specs.Record.{recordPlaces, recordIn, recordList};
+ghost use Rattle.boundary.specs.Record.{recordPlaces, recordIn, recordList};
 
 // Places of a record.
 pub const RECORD: usize = 103;

@@ -1,7 +1,7 @@
 -- The fields are those of the definition.
 use mathlib.Core.Path.{refl}
-use Rattle.vougecress.proofs.streams.nothing_read.Statement.{statement}
-use Rattle.vougecress.proofs.streams.nothing_read.Tie as tie
+use Rattle.boundary.proofs.reads.nothing_read.Statement.{statement}
+use Rattle.boundary.proofs.reads.nothing_read.Tie as tie
 
 returns : tie.Need-returns
 returns c = refl

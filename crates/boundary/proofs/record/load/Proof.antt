@@ -5,8 +5,8 @@ use Prim.Native.Nat.{ℕ}
 use lib.ListN.{getD}
 use Rattle.chain.specs.Record.{recordWith}
 use borrow.Author.Needs.{needs}
-use Rattle.vougecress.proofs.record.load.Statement.{statement}
-use Rattle.vougecress.proofs.record.load.Tie as tie
+use Rattle.boundary.proofs.record.load.Statement.{statement}
+use Rattle.boundary.proofs.record.load.Tie as tie
 
 sub-copy : tie.Need-sub-copy
 sub-copy c = search needs

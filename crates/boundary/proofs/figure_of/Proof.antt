@@ -2,12 +2,12 @@
 use mathlib.Core.Path.{_≡_, refl, sym, ap, _∙_}
 use Rattle.chain.specs.declared.Answer.{Answer}
 use Rattle.chain.specs.Record.{answerFrom}
-use Rattle.vougecress.specs.Answers.{figureFrom}
+use Rattle.boundary.specs.Figures.{figureFrom}
 use borrow.Author.Needs.{needs}
-use Rattle.vougecress.proofs.figure_of.Statement.{statement}
-use Rattle.vougecress.proofs.figure_of.Tie as tie
-use Rattle.vougecress.proofs.figure_of.Reads as reads
-use Rattle.vougecress.proofs.figure_of.Lts as lts
+use Rattle.boundary.proofs.figure_of.Statement.{statement}
+use Rattle.boundary.proofs.figure_of.Tie as tie
+use Rattle.boundary.proofs.figure_of.Reads as reads
+use Rattle.boundary.proofs.figure_of.Lts as lts
 use Rattle.refusals.proofs.Refusal.number.Reads as number-reads
 
 -- src/lib.rt:24:24
