@@ -1,7 +1,7 @@
 -- Each arm by the definition at its command byte; the width leaves room for every operand.
 use native.Mathlib.Omega.{arith}
 use borrow.Author.Tests.{ne-eqb}
-use Rattle.stream.proofs.BigEndian.{byte}
+use Rattle.bigendian.proofs.Joined.{byte}
 use Rattle.rules.specs.Stream.{widthOf, commandOf}
 use Rattle.stream.proofs.operands.Statement.{statement}
 use Rattle.stream.proofs.operands.Tie as tie

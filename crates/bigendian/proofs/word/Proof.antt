@@ -1,9 +1,9 @@
 -- By the law of joined bytes, at 2 + 2.
 use borrow.Author.Needs.{needs}
 use native.Mathlib.Omega.{arith}
-use Rattle.stream.proofs.BigEndian.{join}
-use Rattle.stream.proofs.word.Statement.{statement}
-use Rattle.stream.proofs.word.Tie as tie
+use Rattle.bigendian.proofs.Joined.{join}
+use Rattle.bigendian.proofs.word.Statement.{statement}
+use Rattle.bigendian.proofs.word.Tie as tie
 
 two-bytes-requires : tie.Need-two-bytes-requires
 two-bytes-requires c κs = search needs

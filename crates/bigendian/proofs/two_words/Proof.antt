@@ -1,9 +1,9 @@
 -- By the law of joined bytes, at 4 + 4.
 use borrow.Author.Needs.{needs}
 use native.Mathlib.Omega.{arith}
-use Rattle.stream.proofs.BigEndian.{join}
-use Rattle.stream.proofs.two_words.Statement.{statement}
-use Rattle.stream.proofs.two_words.Tie as tie
+use Rattle.bigendian.proofs.Joined.{join}
+use Rattle.bigendian.proofs.two_words.Statement.{statement}
+use Rattle.bigendian.proofs.two_words.Tie as tie
 
 word-requires : tie.Need-word-requires
 word-requires c κs = search needs
