@@ -19,23 +19,26 @@ module _ (j : Job) (n t r : ℕ) where
   unfolding onUnit
   unit-refused h = simp (le-leb _ _ h)
 
-  pub unit-joins : length (j .units .numbers) < mostHeld → onUnit j n t r ≡ record { job = record { units = frame (snoc (j .units .numbers) n) (snoc (j .units .turnovers) t) (snoc (j .units .randoms) r); panel = j .panel; shares = j .shares; pending = j .pending; chain = j .chain }; says = Saying.nothing }
+  joins : length (j .units .numbers) < mostHeld → onUnit j n t r ≡ record { job = record { units = frame (snoc (j .units .numbers) n) (snoc (j .units .turnovers) t) (snoc (j .units .randoms) r); panel = j .panel; shares = j .shares; pending = j .pending; chain = j .chain }; says = Saying.nothing }
   unfolding onUnit
-  unit-joins h = simp (lt-leb _ _ h)
+  joins h = simp (lt-leb _ _ h)
+
+  pub unit-joins : length (j .units .numbers) < mostHeld → (ns ts rs : List ℕ) → ns ≡ snoc (j .units .numbers) n → ts ≡ snoc (j .units .turnovers) t → rs ≡ snoc (j .units .randoms) r → record { job = record { units = frame ns ts rs; panel = j .panel; shares = j .shares; pending = j .pending; chain = j .chain }; says = Saying.nothing } ≡ onUnit j n t r
+  unit-joins h ns ts rs p q s = cc (joins h)
 
 module _ (j : Job) (place x : ℕ) where
   pub share-refused : length (j .panel) ≤ place → onShare j place x ≡ refuses j 18
   unfolding onShare
   share-refused h = simp (le-leb _ _ h)
 
-  pub share-set : place < length (j .panel) → onShare j place x ≡ record { job = record { units = j .units; panel = j .panel; shares = set (j .shares) place x; pending = j .pending; chain = j .chain }; says = Saying.nothing }
+  pub share-set : place < length (j .panel) → (l : List ℕ) → l ≡ set (j .shares) place x → record { job = record { units = j .units; panel = j .panel; shares = l; pending = j .pending; chain = j .chain }; says = Saying.nothing } ≡ onShare j place x
   unfolding onShare
-  share-set h = simp (lt-leb _ _ h)
+  share-set h l e = simp (lt-leb _ _ h, e)
 
   pub relative-refused : length (j .panel) ≤ place → onRelative j place x ≡ refuses j 18
   unfolding onRelative
   relative-refused h = simp (le-leb _ _ h)
 
-  pub relative-set : place < length (j .panel) → onRelative j place x ≡ record { job = record { units = j .units; panel = j .panel; shares = j .shares; pending = set (j .pending) place x; chain = j .chain }; says = Saying.nothing }
+  pub relative-set : place < length (j .panel) → (l : List ℕ) → l ≡ set (j .pending) place x → record { job = record { units = j .units; panel = j .panel; shares = j .shares; pending = l; chain = j .chain }; says = Saying.nothing } ≡ onRelative j place x
   unfolding onRelative
-  relative-set h = simp (lt-leb _ _ h)
+  relative-set h l e = simp (lt-leb _ _ h, e)

@@ -46,8 +46,7 @@ returns-2 c =
     let among : a .place < length (take (j .size) (j .panel)) = omega (arith, named (j .panel) (j .size) mostPanel h) in
     let below : a .place < j .size = omega arith in
     stepped (c .said2 .result) _ Nothing (c .said2 .ensures .0) (c .said2 .ensures .1)
-    ∙ cc (take-set-lt (j .size) (j .pending) (a .place) (a .relative) below)
-    ∙ sym (relative-set (jobOf j) (a .place) (a .relative) among)
+    ∙ relative-set (jobOf j) (a .place) (a .relative) among _ (take-set-lt (j .size) (j .pending) (a .place) (a .relative) below)
 
 pub on-relative-spec : {M : Type 1} → statement M
 on-relative-spec =

@@ -58,8 +58,7 @@ returns-2 c =
     let l : j .units < length (j .randoms) = search needs in
     let some : length (take (j .units) (j .numbers)) < mostHeld = omega (arith, named (j .numbers) (j .units) mostHeld h) in
     stepped (c .said2 .result) _ Nothing (c .said2 .ensures .0) (c .said2 .ensures .1)
-    ∙ cc (joined (j .numbers) (j .units) (a .number) i, joined (j .turnovers) (j .units) (a .turnover) k, joined (j .randoms) (j .units) (a .random) l)
-    ∙ sym (unit-joins (jobOf j) (a .number) (a .turnover) (a .random) some)
+    ∙ unit-joins (jobOf j) (a .number) (a .turnover) (a .random) some _ _ _ (joined (j .numbers) (j .units) (a .number) i) (joined (j .turnovers) (j .units) (a .turnover) k) (joined (j .randoms) (j .units) (a .random) l)
 
 pub on-unit-spec : {M : Type 1} → statement M
 on-unit-spec =
