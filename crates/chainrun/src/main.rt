@@ -28,7 +28,7 @@ fn text_room() -> [u8; TEXT_ROOM]
 fn run_stream(stream: &[u8]) {
     let mut text = text_room();
     let mut unread = stream;
-    let mut held = job::empty();
+    let mut held = jobstate::empty();
     loop {
         let turned = run::turn(stream.len(), unread, held, &mut text);
         let count = turned.count;

@@ -1,4 +1,1 @@
-pub mod FirstPlaces
-pub mod Values
-pub mod Answers
 pub mod Panels

@@ -3,7 +3,7 @@ use Prim.Native.Nat.{ℕ, zero, suc, _≤_, min}
 use mathlib.Core.Bool.{not}
 use mathlib.Core.Path.{_≡_, refl, sym, ap, _∙_}
 use mathlib.Core.List.{List}
-use lib.ListN.{length, getD, take, drop}
+use lib.ListN.{length, getD, take, drop, replicate, length-replicate}
 use lib.Dec.{ltb}
 use lib.Seq.{take-at}
 use native.Mathlib.Omega.{arith}
@@ -22,11 +22,15 @@ use Rattle.frame.proofs.Refusals.{goes, stops}
 use Rattle.frame.proofs.Accepted.{accepted}
 use Rattle.selection.proofs.Panel.{panel-length}
 use Rattle.keys.proofs.Keys.{keys-order-among}
-use Rattle.job.specs.declared.Job.{Job}
-use Rattle.job.specs.declared.Stepped.{Stepped}
-use Rattle.job.specs.declared.Saying.the-variants.{Refused, Panel}
-use Rattle.job.specs.State.{jobOf, stepFrom}
-use Rattle.job.proofs.Values.{stepped}
+use Rattle.jobstate.specs.declared.Job.{Job}
+use Rattle.jobstate.specs.declared.Stepped.{Stepped}
+use Rattle.jobstate.specs.declared.Saying.the-variants.{Refused, Panel}
+use Rattle.jobstate.specs.State.{jobOf, stepFrom}
+use Rattle.jobstate.proofs.Jobs.{stepped}
+
+-- a buffer that was made of one number
+pub filled : (l : List ℕ) (places x : ℕ) → l ≡ replicate places x → length l ≡ places
+filled l places x e = ap length e ∙ length-replicate places x
 
 -- the step by the refusal that the draw's answer shows
 by-refused : (n k : ℕ) (g : Group) (j : rules.Job) (z : ℕ) (ns ws : List ℕ) → DrawAnswer.refused k ≡ drawBy n g → drawStep n j z ns ws ≡ refuses j k

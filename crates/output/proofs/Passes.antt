@@ -12,7 +12,7 @@ use borrow.Author.Tests.{ltb-false}
 use Rattle.rules.specs.Limits.{mostStream}
 use Rattle.rules.specs.Stream.{Reading, frontRefusal, commandOf, readingBy, reading, restOf}
 use Rattle.rules.specs.Job.{Job, emptyJob, printed, output}
-use Rattle.job.specs.State.{jobOf}
+use Rattle.jobstate.specs.State.{jobOf}
 use Rattle.lines.specs.Laid.{laidAt, panelRoom}
 use Rattle.run.specs.declared.Turned.{Turned}
 use Rattle.run.specs.Turn.{Turn, turnBy, turnOf, onto, Renders}

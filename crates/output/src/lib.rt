@@ -52,7 +52,7 @@ fn pass(stream: &[u8], out: &mut [u8]) -> usize
 {
     let mut text = text_room();
     let mut unread = stream;
-    let mut held = job::empty();
+    let mut held = jobstate::empty();
     let mut at: usize = 0;
     loop {
         let turned = run::turn(stream.len(), unread, held, &mut text);

@@ -8,9 +8,9 @@ use borrow.Author.Tests.{le-ltb}
 use Rattle.lines.specs.Laid.{lineRoom, laid, laidCount}
 use Rattle.rules.specs.Stream.{Reading, reading}
 use Rattle.rules.specs.Job.{Job, textOf}
-use Rattle.job.specs.declared.Stepped.{Stepped}
-use Rattle.job.specs.declared.Saying.{Saying}
-use Rattle.job.specs.State.{jobOf, sayingFrom, sayingBy}
+use Rattle.jobstate.specs.declared.Stepped.{Stepped}
+use Rattle.jobstate.specs.declared.Saying.{Saying}
+use Rattle.jobstate.specs.State.{jobOf, sayingFrom, sayingBy}
 use Rattle.run.specs.declared.Turned.{Turned}
 use Rattle.run.specs.Turn.{Turn, continues, turnBy, turnOf, onto, Renders}
 

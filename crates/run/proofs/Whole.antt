@@ -14,7 +14,7 @@ use Rattle.rules.specs.Lines.{refusalLine}
 use Rattle.rules.specs.Stream.{Reading, reading, restOf}
 use Rattle.rules.specs.Job.{Job, Saying, emptyJob, step, textOf, goesOn, printedBy, printed, output}
 use Rattle.stream.proofs.Unread.{rest-shorter as shorter}
-use Rattle.job.specs.State.{jobOf}
+use Rattle.jobstate.specs.State.{jobOf}
 use Rattle.run.specs.declared.Turned.{Turned}
 use Rattle.run.specs.Turn.{Turn, continues, turnBy, turnOf, Renders}
 use Rattle.run.specs.Run.{Run, stops, goesOn as again}

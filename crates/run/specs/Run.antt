@@ -7,7 +7,7 @@ use mathlib.Core.List.{List, _++_}
 use lib.ListN.{take}
 use Rattle.rules.specs.Stream.{restOf}
 use Rattle.rules.specs.Job.{Job}
-use Rattle.job.specs.State.{jobOf}
+use Rattle.jobstate.specs.State.{jobOf}
 use Rattle.run.specs.declared.Turned.{Turned}
 use Rattle.run.specs.Turn.{turnOf, Renders}
 

@@ -8,7 +8,7 @@ use lib.ListN.{length, drop}
 use Rattle.rules.specs.Stream.{Reading, reading}
 use Rattle.rules.specs.Lines.{refusalLine}
 use Rattle.rules.specs.Job.{Job, Saying, Step, step, textOf}
-use Rattle.job.specs.State.{jobOf}
+use Rattle.jobstate.specs.State.{jobOf}
 use Rattle.run.specs.declared.Turned.{Turned}
 
 -- what a turn prints, the job after it, and whether there is a next turn

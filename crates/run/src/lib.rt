@@ -1,17 +1,17 @@
 // Document 01, "Job stream": one turn of a stream: the command at the front of the unread part is read and done, and its lines are laid into a
 // lent buffer. A program loops over turns (specs/Run.antt); what all turns print is proofs/Whole.antt.
 use frame::MOST_PANEL;
-use job::Job;
-use job::Saying;
-use job::Stepped;
-use job::jobs::within;
+use jobstate::Job;
+use jobstate::Saying;
+use jobstate::Stepped;
+use jobstate::within;
 use stream::Reading;
 ghost use mathlib.Core.Path.{_≡_};
 ghost use mathlib.Core.Bool.{Bool};
 ghost use Prim.Native.Nat.{_-_};
 ghost use lib.ListN.{length};
 ghost use Rattle.rules.specs.Job.{textOf};
-ghost use Rattle.job.specs.State.{jobOf, sayingFrom};
+ghost use Rattle.jobstate.specs.State.{jobOf, sayingFrom};
 ghost use Rattle.run.specs.Turn.{continues, turnOf, onto, Renders};
 
 // Bytes of the longest text of a command: a line for each unit of a panel.

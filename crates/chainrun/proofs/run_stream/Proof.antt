@@ -5,7 +5,7 @@ use lib.Seq.{length-take-le}
 use native.Mathlib.Omega.{arith}
 use borrow.Author.Needs.{needs}
 use borrow.Author.Tests.{not-false}
-use Rattle.job.specs.State.{jobOf}
+use Rattle.jobstate.specs.State.{jobOf}
 use Rattle.run.proofs.Whole.{rest-shorter, count-within}
 use Rattle.chainrun.proofs.run_stream.Statement.{statement}
 use Rattle.chainrun.proofs.run_stream.Tie as tie

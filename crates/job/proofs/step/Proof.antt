@@ -3,7 +3,7 @@ use mathlib.Core.Path.{sym, ap, _∙_}
 use Rattle.rules.specs.Job.{step}
 use Rattle.stream.specs.Value.{commandFrom}
 use Rattle.stream.specs.declared.Command.{Command}
-use Rattle.job.specs.State.{jobOf}
+use Rattle.jobstate.specs.State.{jobOf}
 use borrow.Author.Needs.{needs}
 use Rattle.job.proofs.step.Statement.{statement}
 use Rattle.job.proofs.step.Tie as tie

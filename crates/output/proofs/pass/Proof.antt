@@ -4,7 +4,7 @@ use lib.ListN.{length}
 use native.Mathlib.Omega.{arith}
 use borrow.Author.Needs.{needs}
 use borrow.Author.Tests.{not-false, not-true}
-use Rattle.job.specs.State.{jobOf}
+use Rattle.jobstate.specs.State.{jobOf}
 use Rattle.run.proofs.Whole.{rest-shorter, count-within}
 use Rattle.output.proofs.Passes.{Under, start, ends, again}
 use Rattle.output.proofs.pass.Statement.{statement}

@@ -7,7 +7,7 @@ use native.Mathlib.Omega.{arith}
 use Rattle.rules.specs.Limits.{mostPanel}
 use Rattle.rules.specs.Lines.{panelLines, refusalLine}
 use Rattle.lines.specs.Laid.{lineRoom}
-use Rattle.job.proofs.FirstPlaces.{lent-within, lent-length, lent}
+use Rattle.jobstate.proofs.FirstPlaces.{lent-within, lent-length, lent}
 use Rattle.run.specs.Turn.{onto}
 use Rattle.run.proofs.Texts.{laid-all, text-of, panel-room}
 use borrow.Author.Needs.{needs}

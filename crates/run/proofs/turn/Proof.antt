@@ -6,7 +6,7 @@ use Rattle.rules.specs.Lines.{refusalLine}
 use Rattle.rules.specs.Job.{Step}
 use Rattle.stream.specs.Value.{readingFrom}
 use Rattle.lines.specs.Laid.{lineRoom}
-use Rattle.job.specs.State.{jobOf}
+use Rattle.jobstate.specs.State.{jobOf}
 use Rattle.run.specs.Turn.{turnAfter}
 use Rattle.run.proofs.Texts.{laid-all, turn-is, renders-as}
 use borrow.Author.Needs.{needs}

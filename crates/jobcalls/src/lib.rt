@@ -1,0 +1,79 @@
+// Document 01, "Job stream": the commands on the chain, open, quarter and close; refusal 19.
+use chain::Answer;
+use frame::MOST_PANEL;
+use jobstate::Job;
+use jobstate::Saying;
+use jobstate::Stepped;
+use jobstate::said;
+use jobstate::with_chain;
+use jobstate::within;
+use opening::Opening;
+use refusals::Refusal;
+ghost use mathlib.Core.Path.{_≡_};
+ghost use Rattle.rules.specs.Chain.{Call};
+ghost use Rattle.rules.specs.Job.{onOpen, onCall};
+ghost use Rattle.jobstate.specs.State.{jobOf, stepFrom};
+
+// 5: a new chain from the panel, its shares and the pending relatives.
+pub fn on_open(job: Job, start: u64) -> Stepped
+    ensures { λ r. ⌜ stepFrom r ≡ onOpen (jobOf job) start ⌝ }
+{
+    let size = within(job.size, MOST_PANEL);
+    if size == 0 {
+        return said(job, Saying::Refused(Refusal::State));
+    }
+    let panel = job.panel;
+    let shares = job.shares;
+    let pending = job.pending;
+    let opened = opening::open(&panel[..size], &shares[..size], &pending[..size], start);
+    let answer = opened.answer;
+    match answer {
+        Opening::Refused(why) => said(job, Saying::Refused(why)),
+        Opening::Accepted => {
+            let chain = opened.chain;
+            said(with_chain(job, chain), Saying::Nothing)
+        }
+    }
+}
+
+// 6: the figure of a quarter.
+pub fn on_quarter(job: Job) -> Stepped
+    ensures { λ r. ⌜ stepFrom r ≡ onCall (jobOf job) (jobOf job .chain) (Call.quarter (jobOf job .pending)) ⌝ }
+{
+    if !job.is_open {
+        return said(job, Saying::Refused(Refusal::State));
+    }
+    let size = within(job.size, MOST_PANEL);
+    let pending = job.pending;
+    let chain = job.chain;
+    let answered = chain.quarter(&pending[..size]);
+    let answer = answered.answer;
+    match answer {
+        Answer::Refused(why) => said(job, Saying::Refused(why)),
+        Answer::Figure(f) => {
+            let next = answered.chain;
+            said(with_chain(job, next), Saying::Quarter(f))
+        }
+    }
+}
+
+// 7: the figure of a close, which moves the chain.
+pub fn on_close(job: Job) -> Stepped
+    ensures { λ r. ⌜ stepFrom r ≡ onCall (jobOf job) (jobOf job .chain) (Call.close (jobOf job .pending)) ⌝ }
+{
+    if !job.is_open {
+        return said(job, Saying::Refused(Refusal::State));
+    }
+    let size = within(job.size, MOST_PANEL);
+    let pending = job.pending;
+    let chain = job.chain;
+    let answered = chain.close(&pending[..size]);
+    let answer = answered.answer;
+    match answer {
+        Answer::Refused(why) => said(job, Saying::Refused(why)),
+        Answer::Figure(f) => {
+            let next = answered.chain;
+            said(with_chain(job, next), Saying::Close(f))
+        }
+    }
+}

@@ -1,0 +1,59 @@
+// Document 01, "Job stream": the commands that give a value, a unit of the frame, a share and a relative of the panel; refusals 18 and 20.
+// Whoever uses the value judges it.
+use frame::MOST_PANEL;
+use jobstate::Job;
+use jobstate::Saying;
+use jobstate::Stepped;
+use jobstate::said;
+use jobstate::within;
+use refusals::Refusal;
+ghost use mathlib.Core.Path.{_≡_};
+ghost use Rattle.rules.specs.Job.{onUnit, onShare, onRelative};
+ghost use Rattle.jobstate.specs.State.{jobOf, stepFrom};
+
+// Units that a job holds.
+pub const MOST_HELD: usize = 1024;
+
+// 1: a unit joins the frame.
+pub fn on_unit(job: Job, number: u32, turnover: u64, random: u32) -> Stepped
+    ensures { λ r. ⌜ stepFrom r ≡ onUnit (jobOf job) number turnover random ⌝ }
+{
+    let at = job.units;
+    if MOST_HELD <= at {
+        return said(job, Saying::Refused(Refusal::FrameFull));
+    }
+    let mut next = job;
+    next.numbers[at] = number;
+    next.turnovers[at] = turnover;
+    next.randoms[at] = random;
+    next.units = at + 1;
+    said(next, Saying::Nothing)
+}
+
+// 3: a share of a unit of the panel.
+pub fn on_share(job: Job, place: u8, share: u16) -> Stepped
+    ensures { λ r. ⌜ stepFrom r ≡ onShare (jobOf job) place share ⌝ }
+{
+    let at = place as usize;
+    let size = within(job.size, MOST_PANEL);
+    if size <= at {
+        return said(job, Saying::Refused(Refusal::Place));
+    }
+    let mut next = job;
+    next.shares[at] = share as u32;
+    said(next, Saying::Nothing)
+}
+
+// 4: a relative of a unit of the panel.
+pub fn on_relative(job: Job, place: u8, relative: u32) -> Stepped
+    ensures { λ r. ⌜ stepFrom r ≡ onRelative (jobOf job) place relative ⌝ }
+{
+    let at = place as usize;
+    let units = within(job.size, MOST_PANEL);
+    if units <= at {
+        return said(job, Saying::Refused(Refusal::Place));
+    }
+    let mut next = job;
+    next.pending[at] = relative;
+    said(next, Saying::Nothing)
+}

@@ -1,0 +1,2 @@
+pub mod FirstPlaces
+pub mod Jobs

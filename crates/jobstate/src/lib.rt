@@ -1,0 +1,149 @@
+// Document 01, "Job stream": what a job holds, what a command says, and the jobs that commands leave.
+// A job is held by value, and any value of the type is a job: a count beyond an array's places reads as all of them.
+use chain::Chain;
+use opening::steps::SHARE_SCALE;
+use refusals::Refusal;
+ghost use mathlib.Core.Path.{_≡_};
+ghost use mathlib.Core.List.{List};
+ghost use Prim.Native.Nat.{min};
+ghost use lib.ListN.{replicate, take};
+ghost use Rattle.rules.specs.Limits.{mostHeld, mostPanel};
+ghost use Rattle.rules.specs.Job.{emptyJob, withChain, drawnJob};
+ghost use Rattle.chain.specs.Record.{recordOf};
+ghost use Rattle.jobstate.specs.State.{jobOf};
+
+// The frame so far, the W of the drawn panel with its shares and pending relatives, and the chain if it is open.
+pub struct Job {
+    pub numbers: [u32; 1024],
+    pub turnovers: [u64; 1024],
+    pub randoms: [u32; 1024],
+    pub units: usize,
+    pub panel: [u64; 100],
+    pub shares: [u32; 100],
+    pub pending: [u32; 100],
+    pub size: usize,
+    pub chain: Chain,
+    pub is_open: bool,
+}
+
+// What a command says. The panel's unit numbers and W stand beside it, since an enum holds no array.
+pub enum Saying {
+    Refused(Refusal),
+    Nothing,
+    Panel,
+    Quarter(u64),
+    Close(u64),
+}
+
+// The job that a command leaves, what it says, and the unit numbers of a drawn panel.
+pub struct Stepped {
+    pub job: Job,
+    pub says: Saying,
+    pub numbers: [u32; 100],
+}
+
+// How many of the places of an array a count names.
+pub fn within(count: usize, places: usize) -> usize
+    ensures { λ r. ⌜ r ≡ min count places ⌝ }
+{
+    if places < count {
+        return places;
+    }
+    count
+}
+
+// The arrays of a frame without units and of a panel without a weight.
+pub fn no_units() -> [u32; 1024]
+    ensures { λ r. ⌜ r ≡ replicate mostHeld 0 ⌝ }
+{
+    [0; 1024]
+}
+
+pub fn no_turnovers() -> [u64; 1024]
+    ensures { λ r. ⌜ r ≡ replicate mostHeld 0 ⌝ }
+{
+    [0; 1024]
+}
+
+// One number for each place of a panel.
+pub fn places(x: u32) -> [u32; 100]
+    ensures { λ r. ⌜ r ≡ replicate mostPanel x ⌝ }
+{
+    [x; 100]
+}
+
+pub fn no_weights() -> [u64; 100]
+    ensures { λ r. ⌜ r ≡ replicate mostPanel 0 ⌝ }
+{
+    [0; 100]
+}
+
+// A step that draws no panel.
+pub fn said(job: Job, says: Saying) -> Stepped
+    ensures { λ r. ⌜ (r .job ≡ job) × (r .says ≡ says) ⌝ }
+{
+    let none = places(0);
+    Stepped {
+        job: job,
+        says: says,
+        numbers: none,
+    }
+}
+
+// The job after an accepted open, quarter or close: the chain that it leaves, and no relatives.
+pub fn with_chain(job: Job, chain: Chain) -> Job
+    ensures { λ r. ⌜ jobOf r ≡ withChain (jobOf job) (recordOf chain) ⌝ }
+{
+    let none = places(0);
+    let mut next = job;
+    next.pending = none;
+    next.chain = chain;
+    next.is_open = true;
+    next
+}
+
+// The job after an accepted draw: a panel with whole shares, no relatives and no chain; the frame stays.
+pub fn drawn(job: Job, size: usize, weights: [u64; 100]) -> Job
+    ensures { λ r. ⌜ (r .size ≡ size) × (jobOf r ≡ drawnJob (jobOf job) (min size mostPanel) (take size weights)) ⌝ }
+{
+    let whole = places(SHARE_SCALE as u32);
+    let pending = places(0);
+    let mut next = job;
+    next.panel = weights;
+    next.shares = whole;
+    next.pending = pending;
+    next.size = size;
+    next.is_open = false;
+    next
+}
+
+// The job before the first command.
+pub fn empty() -> Job
+    ensures { λ r. ⌜ jobOf r ≡ emptyJob ⌝ }
+{
+    let numbers = no_units();
+    let turnovers = no_turnovers();
+    let randoms = no_units();
+    let panel = no_weights();
+    let shares = places(0);
+    let pending = places(0);
+    let weights = no_weights();
+    let chain = Chain {
+        weights: weights,
+        units: 0,
+        index: 0,
+        closes: 0,
+    };
+    Job {
+        numbers: numbers,
+        turnovers: turnovers,
+        randoms: randoms,
+        units: 0,
+        panel: panel,
+        shares: shares,
+        pending: pending,
+        size: 0,
+        chain: chain,
+        is_open: false,
+    }
+}
