@@ -7,7 +7,7 @@ ghost use mathlib.Core.Path.{_≡_};
 ghost use Rattle.rules.specs.TakeAll.{frame};
 ghost use Rattle.rules.specs.Rotation.{badOldPanel};
 ghost use Rattle.refusals.specs.Number.{verdictOf};
-ghost use Rattle.rotation.specs.Judge.{oldRefusal, earlyRefusal};
+ghost use Rattle.oldpanel.specs.Judge.{oldRefusal, earlyRefusal};
 
 // The fraction is in thousandths.
 pub const FRACTION_SCALE: u32 = 1000;

@@ -2,8 +2,8 @@
 use mathlib.Core.Path.{refl}
 use Rattle.rules.specs.Rotation.{startAt}
 use borrow.Author.Needs.{needs}
-use Rattle.rotation.proofs.start_at.Statement.{statement}
-use Rattle.rotation.proofs.start_at.Tie as tie
+use Rattle.leavers.proofs.start_at.Statement.{statement}
+use Rattle.leavers.proofs.start_at.Tie as tie
 
 mul-result : tie.Need-mul-result
 mul-result c = search needs

@@ -7,9 +7,9 @@ use lib.ListN.{length, getD, drop, length-set}
 use borrow.Author.Needs.{needs}
 use Rattle.rules.specs.Selection.{listed, every}
 use Rattle.selection.proofs.Sums.{count-every, listed-length, list-store}
-use Rattle.rotation.specs.Leaving.{inPlaceOrder}
-use Rattle.rotation.proofs.write_numbers.Statement.{statement}
-use Rattle.rotation.proofs.write_numbers.Tie as tie
+use Rattle.leavers.specs.Leaving.{inPlaceOrder}
+use Rattle.leavers.proofs.write_numbers.Statement.{statement}
+use Rattle.leavers.proofs.write_numbers.Tie as tie
 
 abbrev Inv-loop : tie.InvT-loop
 Inv-loop numbers out₀ places many j₀ out j =

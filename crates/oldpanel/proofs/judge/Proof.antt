@@ -1,10 +1,10 @@
 -- `judge` meets its contract: a refused frame stops the order of refusals, an accepted one hands it on.
 use mathlib.Core.Path.{sym, ap, _∙_}
 use Rattle.refusals.specs.Number.{verdictOf}
-use Rattle.rotation.proofs.Refusals.{refusal-some, frame-stops, frame-goes}
+use Rattle.oldpanel.proofs.Refusals.{refusal-some, frame-stops, frame-goes}
 use borrow.Author.Needs.{needs}
-use Rattle.rotation.proofs.judge.judge.Statement.{statement}
-use Rattle.rotation.proofs.judge.judge.Tie as tie
+use Rattle.oldpanel.proofs.judge.Statement.{statement}
+use Rattle.oldpanel.proofs.judge.Tie as tie
 
 judge-requires : tie.Need-judge-requires
 judge-requires c κs = search needs

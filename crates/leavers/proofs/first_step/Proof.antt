@@ -10,11 +10,11 @@ use Rattle.rules.specs.Selection.{count, leastFrom}
 use Rattle.rules.specs.Rotation.{startAt}
 use Rattle.selection.proofs.Least.{least-hit, least-miss, least-end}
 use Rattle.takeall.specs.Group.{rulesGroup}
-use Rattle.rotation.specs.Leaving.{memberLeaves, leaving, enoughLeave, firstStep}
+use Rattle.leavers.specs.Leaving.{memberLeaves, leaving, enoughLeave, firstStep}
 use Rattle.ranking.specs.Sampling.{unnumbered}
-use Rattle.rotation.proofs.Members.{start-low}
-use Rattle.rotation.proofs.first_step.Statement.{statement}
-use Rattle.rotation.proofs.first_step.Tie as tie
+use Rattle.leavers.proofs.Starts.{start-low}
+use Rattle.leavers.proofs.first_step.Statement.{statement}
+use Rattle.leavers.proofs.first_step.Tie as tie
 
 abbrev Inv-loop : tie.InvT-loop
 Inv-loop turnovers randoms gaps g members old need k₀ k =

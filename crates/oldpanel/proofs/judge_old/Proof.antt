@@ -1,9 +1,9 @@
 -- `judge_old` meets its contract: each return by the law of the test that refused and those that let pass.
 use mathlib.Core.Path.{sym, _∙_}
-use Rattle.rotation.proofs.Refusals.{buffer-refused, panel-refused, panel-passed}
+use Rattle.oldpanel.proofs.Refusals.{buffer-refused, panel-refused, panel-passed}
 use borrow.Author.Needs.{needs}
-use Rattle.rotation.proofs.judge.judge_old.Statement.{statement}
-use Rattle.rotation.proofs.judge.judge_old.Tie as tie
+use Rattle.oldpanel.proofs.judge_old.Statement.{statement}
+use Rattle.oldpanel.proofs.judge_old.Tie as tie
 
 returns : tie.Need-returns
 returns c = sym (buffer-refused _ _ _ _ (c .if1 .taken))

@@ -1,5 +1,5 @@
 -- Document 01, "Rotation", asked of the members alone: `leaves` and `suffices` of `rules` look at each unit of the frame, a
--- step looks at the list of the members' places; proofs/Members shows that both say the same.
+-- step looks at the list of the members' places; proofs/Members of `rotation` shows that both say the same.
 use mathlib.Core.Bool.{Bool, not}
 use mathlib.Core.List.{List}
 use Prim.Native.Nat.{ℕ}

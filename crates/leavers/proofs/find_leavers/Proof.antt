@@ -10,9 +10,9 @@ use Rattle.takeall.specs.Group.{rulesGroup}
 use Rattle.ranking.specs.Sampling.{unnumbered}
 use Rattle.members.specs.Places.{Holding}
 use Rattle.members.proofs.Held.{held, hold-none, hold-not, hold-more, hold-same}
-use Rattle.rotation.specs.Leaving.{memberLeaves}
-use Rattle.rotation.proofs.find_leavers.Statement.{statement}
-use Rattle.rotation.proofs.find_leavers.Tie as tie
+use Rattle.leavers.specs.Leaving.{memberLeaves}
+use Rattle.leavers.proofs.find_leavers.Statement.{statement}
+use Rattle.leavers.proofs.find_leavers.Tie as tie
 
 abbrev Inv-loop : tie.InvT-loop
 Inv-loop turnovers randoms gaps g start told units many places₀ count₀ j₀ places count j =

@@ -5,8 +5,8 @@ use borrow.Author.Tests.{lt-ltb, le-ltb}
 use Rattle.rules.specs.Rotation.{badOldPanel}
 use Rattle.frame.proofs.Lists.{or-left, or-right, or-skip}
 use borrow.Author.Needs.{needs}
-use Rattle.rotation.proofs.judge.bad_old_panel.Statement.{statement}
-use Rattle.rotation.proofs.judge.bad_old_panel.Tie as tie
+use Rattle.oldpanel.proofs.bad_old_panel.Statement.{statement}
+use Rattle.oldpanel.proofs.bad_old_panel.Tie as tie
 
 returns : tie.Need-returns
 unfolding badOldPanel
