@@ -1,9 +1,9 @@
 // One step of a rotation (document 01, "Rotation"): the start that it leads to, who of the members leaves there, the first step at which enough
 // leave, and the leavers' numbers written out. A step looks for the last sampled unit under its start and holds each member against it.
-use draw::told;
 use frame::MOST_PANEL;
 use frame::RANDOM_RANGE;
 use members::Places;
+use panel::told;
 use takeall::Group;
 ghost use mathlib.Core.Path.{_≡_};
 ghost use Prim.Native.Nat.{_<_, _≤_};

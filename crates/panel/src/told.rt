@@ -11,7 +11,7 @@ ghost use Rattle.rules.specs.Draw.{sampledBy};
 ghost use Rattle.takeall.specs.Group.{rulesGroup};
 ghost use Rattle.ranking.specs.Sampling.{unnumbered, Ready};
 ghost use Rattle.ranking.specs.Gaps.{Gaps};
-ghost use Rattle.draw.specs.Telling.{Tells};
+ghost use Rattle.panel.specs.Telling.{Tells};
 
 // The bound, where it is sure; the threshold, where it is not.
 pub struct Told {

@@ -4,10 +4,10 @@ use native.Mathlib.Omega.{arith}
 use borrow.Author.Needs.{needs}
 use mathlib.Core.Logic.{⊎-elim}
 use Prim.Native.Nat.{ℕ, _+_, _-_, _≤_}
-use Rattle.draw.specs.Panel.{Next}
-use Rattle.draw.proofs.Next.{next-none, next-keep, next-take}
-use Rattle.draw.proofs.writing.next_unit.Statement.{statement}
-use Rattle.draw.proofs.writing.next_unit.Tie as tie
+use Rattle.panel.specs.Panel.{Next}
+use Rattle.panel.proofs.Next.{next-none, next-keep, next-take}
+use Rattle.panel.proofs.next_unit.Statement.{statement}
+use Rattle.panel.proofs.next_unit.Tie as tie
 
 abbrev Inv-loop : tie.InvT-loop
 Inv-loop units len from end next₀ k₀ next k = (k ≤ len) × Next units k from end next

@@ -13,8 +13,8 @@ use Rattle.takeall.specs.Group.{rulesGroup}
 use Rattle.shortlist.specs.declared.Bound.{Bound}
 use Rattle.shortlist.specs.Bound.{passes}
 use borrow.Author.Needs.{needs}
-use Rattle.draw.proofs.writing.write_found.Statement.{statement}
-use Rattle.draw.proofs.writing.write_found.Tie as tie
+use Rattle.panel.proofs.write_found.Statement.{statement}
+use Rattle.panel.proofs.write_found.Tie as tie
 
 -- the unit at place l passes
 abbrev marks : Bound → List ℕ → List ℕ → ℕ → Bool

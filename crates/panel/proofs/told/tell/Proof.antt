@@ -4,10 +4,10 @@ use mathlib.Core.Bool.{true, false}
 use mathlib.Core.Path.{_≡_, refl, _∙_}
 use Rattle.selection.proofs.Logic.{not-both}
 use Rattle.ranking.proofs.ByGaps.{units-of}
-use Rattle.draw.proofs.Short.{reach-at}
+use Rattle.panel.proofs.Short.{reach-at}
 use borrow.Author.Needs.{needs}
-use Rattle.draw.proofs.told.tell.Statement.{statement}
-use Rattle.draw.proofs.told.tell.Tie as tie
+use Rattle.panel.proofs.told.tell.Statement.{statement}
+use Rattle.panel.proofs.told.tell.Tie as tie
 
 reach-of-requires : tie.Need-reach-of-requires
 reach-of-requires c κs = c .before .before .before .pre .0 .size-low

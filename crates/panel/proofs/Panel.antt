@@ -20,7 +20,7 @@ use Rattle.selection.proofs.Panel.{panel-parts}
 use Rattle.takeall.specs.declared.Group.{Group}
 use Rattle.takeall.specs.Group.{rulesGroup}
 use Rattle.ranking.specs.Sampling.{unnumbered, outside, keyOrder, Ready}
-use Rattle.draw.specs.Panel.{Next, Arrays}
+use Rattle.panel.specs.Panel.{Next, Arrays}
 use Rattle.ranking.proofs.Sampling.{key-is-order, sampled-is}
 
 -- in the panel, in the words of the code: one of the q largest, or sampled

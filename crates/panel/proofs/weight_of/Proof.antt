@@ -6,8 +6,8 @@ use native.Mathlib.Nat.{mul-le-mul}
 use borrow.Author.Tests.{eq-eqb, ne-eqb}
 use Rattle.rules.specs.Limits.{mostTurnover, mostPanel}
 use Rattle.rules.specs.TakeAll.{turnover, baseWeight}
-use Rattle.draw.proofs.writing.weight_of.Statement.{statement}
-use Rattle.draw.proofs.writing.weight_of.Tie as tie
+use Rattle.panel.proofs.weight_of.Statement.{statement}
+use Rattle.panel.proofs.weight_of.Tie as tie
 
 mul-result : tie.Need-mul-result
 mul-result c = search needs

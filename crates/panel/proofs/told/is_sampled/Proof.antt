@@ -3,10 +3,10 @@ use native.Mathlib.Omega.{arith}
 use mathlib.Core.Path.{_≡_, sym, _∙_}
 use Rattle.shortlist.proofs.Terms.{not-true, not-false}
 use Rattle.ranking.proofs.ByGaps.{units-of}
-use Rattle.draw.proofs.Short.{gap-none, gap-some-outside, within-sampled}
+use Rattle.panel.proofs.Short.{gap-none, gap-some-outside, within-sampled}
 use borrow.Author.Needs.{needs}
-use Rattle.draw.proofs.told.is_sampled.Statement.{statement}
-use Rattle.draw.proofs.told.is_sampled.Tie as tie
+use Rattle.panel.proofs.told.is_sampled.Statement.{statement}
+use Rattle.panel.proofs.told.is_sampled.Tie as tie
 
 is-sampled-requires : tie.Need-is-sampled-requires
 is-sampled-requires c κs = let s = c .before .before .before .before .before .before in (s .pre .0 .0, s .pre .0 .2, s .pre .1 .by-key (not-true _ (c .if1 .taken)), s .pre .0 .1)

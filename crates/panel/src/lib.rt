@@ -1,5 +1,8 @@
 // The panel written out (document 01, "Draw"): unit numbers in rising order with their W, from the arrays of the take-all units and of the sampled ones.
-// Each step takes the next higher unit of the two, so that the frame itself is not gone through again.
+// Each step takes the next higher unit of the two, so that the frame itself is not gone through again. Who is sampled, asked of a few units only, is
+// module `told`.
+pub mod told;
+
 use shortlist::Found;
 use takeall::Group;
 ghost use mathlib.Core.Path.{_≡_};
@@ -13,7 +16,7 @@ ghost use Rattle.selection.specs.Ranked.{Ranked};
 ghost use Rattle.takeall.specs.Group.{rulesGroup};
 ghost use Rattle.ranking.specs.Sampling.{unnumbered, outside, keyOrder, Ready};
 ghost use Rattle.shortlist.specs.Bound.{passing, Passing};
-ghost use Rattle.draw.specs.Panel.{Next, Arrays};
+ghost use Rattle.panel.specs.Panel.{Next, Arrays};
 
 // The smallest of the first len units that is `from` or higher, or `end` where none such is below it.
 fn next_unit(units: &[usize], len: usize, from: usize, end: usize) -> usize

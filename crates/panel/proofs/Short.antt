@@ -32,7 +32,7 @@ use Rattle.ranking.specs.Sampling.{unnumbered, outside, keyOrder, Ready}
 use Rattle.ranking.specs.Gaps.{gapOf, Gaps}
 use Rattle.ranking.proofs.Sampling.{outside-is, outside-not, key-is-order, sampled-is, sampled-none, sampled-inside}
 use Rattle.ranking.proofs.ByGaps.{units-of, num-is, den-is, gap-inside, gap-outside, zero-inside}
-use Rattle.draw.proofs.Panel.{drawn, drawn-is}
+use Rattle.panel.proofs.Panel.{drawn, drawn-is}
 
 -- ---- a gap of 0 is that of a unit that is not sampled, and any other that of a unit outside take-all
 pub gap-none : (ts rs : List ℕ) (g : Group) (start : ℕ) (gs : List ℕ) → Gaps ts g gs → (i : ℕ) → i < length ts → getD gs i 0 ≡ 0 → sampledBy (unnumbered ts rs) (rulesGroup ts g) start i ≡ false

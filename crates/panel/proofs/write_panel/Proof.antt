@@ -8,9 +8,9 @@ use Rattle.rules.specs.Selection.{count, listed}
 use Rattle.rules.specs.TakeAll.{baseWeight}
 use Rattle.selection.proofs.Sums.{count-zero}
 use Rattle.takeall.specs.Group.{rulesGroup}
-use Rattle.draw.proofs.Panel.{drawn, next-low, next-stored, next-counted, all-written}
-use Rattle.draw.proofs.writing.write_panel.Statement.{statement}
-use Rattle.draw.proofs.writing.write_panel.Tie as tie
+use Rattle.panel.proofs.Panel.{drawn, next-low, next-stored, next-counted, all-written}
+use Rattle.panel.proofs.write_panel.Statement.{statement}
+use Rattle.panel.proofs.write_panel.Tie as tie
 
 abbrev Inv-loop : tie.InvT-loop
 Inv-loop numbers turnovers randoms g start largest sampled panel₀ weights₀ size from₀ k₀ panel weights from k =

@@ -5,7 +5,7 @@ use mathlib.Core.List.{List}
 use Prim.Native.Nat.{ℕ, _+_, _/_}
 use Rattle.takeall.specs.declared.Group.{Group}
 use Rattle.shortlist.specs.Bound.{Reach, Bounds}
-use Rattle.draw.specs.declared.told.Told.{Told}
+use Rattle.panel.specs.declared.told.Told.{Told}
 use Rattle.ranking.specs.Sampling.{IsThreshold}
 
 pub record Tells (ts rs gs : List ℕ) (g : Group) (start : ℕ) (s : Told) : Type 0 where

@@ -6,7 +6,7 @@ use Prim.Native.Nat.{ℕ, suc, _+_, _≤_, _<_}
 use native.Mathlib.Nat.{le-refl, not-suc-le-zero, eq-or-lt-of-le}
 use native.Mathlib.Omega.{arith}
 use lib.ListN.{getD}
-use Rattle.draw.specs.Panel.{Next}
+use Rattle.panel.specs.Panel.{Next}
 
 -- of no places: the end
 pub next-none : (units : List ℕ) (from end : ℕ) → Next units 0 from end end
