@@ -18,8 +18,8 @@ use Rattle.selection.proofs.TakeAll.{size-le, rest-le, outside-count}
 use Rattle.takeall.specs.declared.Group.{Group}
 use Rattle.takeall.specs.Group.{Sized, IsGroup, rulesGroup}
 use Rattle.ranking.specs.Sampling.{outside, keyOrder, Ready}
-use Rattle.draw.specs.Panel.{Arrays}
-use Rattle.draw.proofs.Panel.{drawn, drawn-any}
+use Rattle.panel.specs.Panel.{Arrays}
+use Rattle.panel.proofs.Panel.{drawn, drawn-any}
 
 -- ---- the group
 pub size-is : (ts : List ℕ) (z : ℕ) (g : Group) → IsGroup ts z g → g .n ≡ z - takeAllSize ts z

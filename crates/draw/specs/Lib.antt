@@ -1,3 +1,1 @@
-pub mod Panel
 pub mod Answer
-pub mod Telling

@@ -1,7 +1,4 @@
 // The draw (document 01, "Frame and weights" and "Draw"; 001, section 2.3 and formulas 21 and 22): a panel of z units of a frame, under a start.
-pub mod told;
-pub mod writing;
-
 use frame::MOST_FRAME;
 use refusals::Refusal;
 use refusals::Verdict;
@@ -73,7 +70,7 @@ fn write_ordered(
 {
     let largest = takeall::largest::largest_units(turnovers, g.q + g.n);
     let sampled = ranking::sampled_units(turnovers, randoms, gaps, g, start);
-    writing::write_panel(
+    panel::write_panel(
         numbers,
         turnovers,
         randoms,
@@ -108,7 +105,7 @@ fn draw_with(
     let reach = shortlist::reach_of(g.n as u64);
     let found = shortlist::find(turnovers, randoms, gaps, start, reach, z);
     if found.sure {
-        writing::write_found(numbers, turnovers, randoms, g, start, found, panel, weights);
+        panel::write_found(numbers, turnovers, randoms, g, start, found, panel, weights);
         return g;
     }
     write_ordered(numbers, turnovers, randoms, gaps, g, start, panel, weights);

@@ -21,11 +21,12 @@ use Rattle.takeall.specs.Group.{rulesGroup, IsGroup}
 use Rattle.draw.proofs.Accepted.{group-is}
 use Rattle.members.specs.declared.Places.{Places}
 use Rattle.members.specs.Places.{Holding, PlacesOf}
-use Rattle.rotation.specs.Judge.{earlyRefusal}
-use Rattle.rotation.specs.Leaving.{memberLeaves, firstStep, inPlaceOrder}
-use Rattle.rotation.specs.Search.{Within}
-use Rattle.rotation.specs.Answer.{Written}
-use Rattle.rotation.proofs.Refusals.{OldPassed, early-frame, early-old, refused-late, not-refused, answer-refused, leavers-refused, answer-given, leavers-given}
+use Rattle.oldpanel.specs.Judge.{earlyRefusal}
+use Rattle.leavers.specs.Leaving.{memberLeaves, firstStep, inPlaceOrder}
+use Rattle.leavers.specs.Search.{Within}
+use Rattle.leavers.specs.Buffer.{Written}
+use Rattle.oldpanel.proofs.Refusals.{OldPassed, early-frame, early-old}
+use Rattle.rotation.proofs.Refusals.{refused-late, not-refused, answer-refused, leavers-refused, answer-given, leavers-given}
 use Rattle.rotation.proofs.Members.{first-is, leavers-held, leavers-are}
 use Rattle.rotation.proofs.Ready.{within}
 

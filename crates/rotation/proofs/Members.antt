@@ -3,11 +3,9 @@
 use mathlib.Core.Path.{_≡_, refl}
 use mathlib.Core.Bool.{Bool, not}
 use mathlib.Core.List.{List, []}
-use Prim.Native.Nat.{ℕ, zero, suc, _<_}
+use Prim.Native.Nat.{ℕ, zero, suc}
 use lib.ListN.{length, getD}
-use native.Mathlib.Nat.{mod-lt}
-use lib.Dec.{lit<}
-use Rattle.rules.specs.Limits.{steps, randomRange}
+use Rattle.rules.specs.Limits.{steps}
 use Rattle.rules.specs.Selection.{count, leastFrom}
 use Rattle.rules.specs.TakeAll.{Frame, Group, frame}
 use Rattle.rules.specs.Draw.{sampledBy, keyBelow}
@@ -15,7 +13,7 @@ use Rattle.rules.specs.Rotation.{member, members, required, startAt, leaves, su
 use Rattle.members.specs.declared.Places.{Places}
 use Rattle.members.specs.Places.{Holding, PlacesOf}
 use Rattle.members.proofs.Held.{count-held, listed-all, holding-both}
-use Rattle.rotation.specs.Leaving.{memberLeaves, leaving, enoughLeave, firstStep, inPlaceOrder}
+use Rattle.leavers.specs.Leaving.{memberLeaves, leaving, enoughLeave, firstStep, inPlaceOrder}
 
 -- tests that agree find the same number
 least-same : (p q : ℕ → Bool) (tries from : ℕ) → ((k : ℕ) → p k ≡ q k) → leastFrom p tries from ≡ leastFrom q tries from
@@ -52,8 +50,3 @@ module _ (ns ts rs : List ℕ) (g : Group) (panel : List ℕ) (m : Places) (h : 
   pub first-is : (old fraction : ℕ) → firstStep (frame [] ts rs) g m old (required fraction (m .count)) ≡ leastStep f g old panel fraction
   unfolding firstStep leastStep
   first-is old fraction = least-same (enoughLeave (frame [] ts rs) g m old (required fraction (m .count))) (suffices f g old panel fraction) steps 0 (suffices-is old fraction)
-
--- a start that a step leads to is one
-pub start-low : (old k : ℕ) → startAt old k < randomRange
-unfolding startAt
-start-low old k = mod-lt _ (lit< tt)

@@ -12,7 +12,7 @@ use Rattle.draw.proofs.Accepted.{frame-ready}
 use Rattle.members.specs.declared.Places.{Places}
 use Rattle.members.specs.Places.{PlacesOf}
 use Rattle.members.proofs.Held.{hold-most, place-low}
-use Rattle.rotation.specs.Search.{Within, Searched}
+use Rattle.leavers.specs.Search.{Within, Searched}
 
 pub within : (mark : ℕ → Bool) (n : ℕ) (m : Places) → PlacesOf mark n m → Within n m
 within mark n m p = record { most = hold-most mark (λ i. i) n m p; low = λ j l. place-low mark n m p j l }

@@ -1,4 +1,1 @@
-pub mod Judge
-pub mod Leaving
-pub mod Search
 pub mod Answer

@@ -15,7 +15,7 @@ use Rattle.ranking.specs.Sampling.{Ready}
 use Rattle.draw.proofs.Refusals.{frame-accepted, room}
 use Rattle.draw.proofs.Accepted.{frame-sized, own-size, frame-ready, panel-size, numbers-accepted, weights-accepted}
 use Rattle.ranking.proofs.ByGaps.{units-of}
-use Rattle.draw.proofs.Short.{reach-at, bounds-at, within-listed, drawn-many}
+use Rattle.panel.proofs.Short.{reach-at, bounds-at, within-listed, drawn-many}
 use borrow.Author.Needs.{needs}
 use Rattle.draw.proofs.draw_with.Statement.{statement}
 use Rattle.draw.proofs.draw_with.Tie as tie

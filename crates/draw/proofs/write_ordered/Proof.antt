@@ -2,12 +2,12 @@
 use native.Mathlib.Omega.{arith}
 use Prim.Native.Nat.{ℕ, _+_, _≤_}
 use mathlib.Core.Path.{_≡_, sym}
-use Rattle.draw.specs.Panel.{Arrays}
+use Rattle.panel.specs.Panel.{Arrays}
 use Rattle.selection.proofs.Places.{ranked-short}
 use Rattle.rules.specs.Selection.{every}
 use Rattle.rules.specs.TakeAll.{larger}
 use lib.ListN.{length}
-use Rattle.draw.proofs.Panel.{drawn-count}
+use Rattle.panel.proofs.Panel.{drawn-count}
 use borrow.Author.Needs.{needs}
 use Rattle.draw.proofs.write_ordered.Statement.{statement}
 use Rattle.draw.proofs.write_ordered.Tie as tie

@@ -8,14 +8,14 @@ use Rattle.rules.specs.Limits.{randomRange}
 use Rattle.rules.specs.Lists.{rising}
 use Rattle.rules.specs.TakeAll.{frame}
 use Rattle.frame.proofs.Accepted.{Accepted}
-use Rattle.rotation.proofs.Refusals.{OldPassed}
+use Rattle.oldpanel.proofs.Refusals.{OldPassed}
 use Rattle.rules.specs.Rotation.{required}
 use Rattle.takeall.specs.Group.{rulesGroup}
 use Rattle.members.proofs.Held.{hold-most}
-use Rattle.rotation.specs.Leaving.{firstStep}
+use Rattle.leavers.specs.Leaving.{firstStep}
 use Rattle.ranking.specs.Sampling.{unnumbered}
 use Rattle.draw.proofs.Accepted.{frame-sized, own-size}
-use Rattle.rotation.proofs.Members.{start-low}
+use Rattle.leavers.proofs.Starts.{start-low}
 use Rattle.rotation.proofs.Ready.{searched}
 use Rattle.rotation.proofs.Composition.{frame-accepted, numbers-rise, old-accepted, left-within, left-fewer, turn-refused, turn-given}
 use borrow.Author.Needs.{needs}

@@ -1,0 +1,29 @@
+-- `bad_old_panel` meets its contract: its three tests are the definition's.
+use mathlib.Core.Path.{sym, ap, _∙_}
+use mathlib.Core.Bool.{not}
+use borrow.Author.Tests.{lt-ltb, le-ltb}
+use Rattle.rules.specs.Rotation.{badOldPanel}
+use Rattle.frame.proofs.Lists.{or-left, or-right, or-skip}
+use borrow.Author.Needs.{needs}
+use Rattle.oldpanel.proofs.bad_old_panel.Statement.{statement}
+use Rattle.oldpanel.proofs.bad_old_panel.Tie as tie
+
+returns : tie.Need-returns
+unfolding badOldPanel
+returns c = sym (or-left _ _ (or-left _ _ (lt-ltb _ _ (c .if1 .taken))))
+
+returns-2 : tie.Need-returns-2
+unfolding badOldPanel
+returns-2 c = sym (or-left _ _ (or-right _ _ (lt-ltb _ _ (c .if2 .taken))))
+
+rising-requires : tie.Need-rising-requires
+rising-requires c κs = search needs
+
+returns-3 : tie.Need-returns-3
+unfolding badOldPanel
+returns-3 c =
+    ap not (c .rising .ensures)
+    ∙ sym (or-skip _ _ (or-skip _ _ (le-ltb _ _ (c .before .before .if1 .left)) ∙ le-ltb _ _ (c .before .if2 .left)))
+
+pub bad-old-panel-spec : {M : Type 1} → statement M
+bad-old-panel-spec = tie.close (tie.spec returns returns-2 rising-requires returns-3)

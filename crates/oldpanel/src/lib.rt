@@ -1,0 +1,58 @@
+// What a rotation refuses before it looks at any step (document 01, refusals 1 to 7): the frame with the old start, the leavers'
+// buffer, and the old panel with the fraction, in this order.
+use frame::MOST_PANEL;
+use refusals::Refusal;
+use refusals::Verdict;
+ghost use mathlib.Core.Path.{_≡_};
+ghost use Rattle.rules.specs.TakeAll.{frame};
+ghost use Rattle.rules.specs.Rotation.{badOldPanel};
+ghost use Rattle.refusals.specs.Number.{verdictOf};
+ghost use Rattle.oldpanel.specs.Judge.{oldRefusal, earlyRefusal};
+
+// The fraction is in thousandths.
+pub const FRACTION_SCALE: u32 = 1000;
+
+// 7: "f over 1,000, or old panel over 100 or not rising"
+fn bad_old_panel(panel: &[u32], fraction: u32) -> bool
+    ensures { λ r. ⌜ r ≡ badOldPanel (now (panel .entry)) fraction ⌝ }
+{
+    if FRACTION_SCALE < fraction {
+        return true;
+    }
+    if MOST_PANEL < panel.len() {
+        return true;
+    }
+    !frame::rising(panel)
+}
+
+// Refusals 6 and 7; room is the length of the leavers' buffer.
+fn judge_old(panel: &[u32], fraction: u32, room: usize) -> Verdict
+    ensures { λ r. ⌜ verdictOf r ≡ oldRefusal (now (panel .entry)) fraction room 0 ⌝ }
+{
+    if room < panel.len() {
+        return Verdict::Refused(Refusal::ResultBuffer);
+    }
+    if bad_old_panel(panel, fraction) {
+        return Verdict::Refused(Refusal::OldPanel);
+    }
+    Verdict::Accepted
+}
+
+// Refusals 1 to 7: the lowest that applies.
+pub fn judge(
+    numbers: &[u32],
+    turnovers: &[u64],
+    randoms: &[u32],
+    z: usize,
+    start: u32,
+    panel: &[u32],
+    fraction: u32,
+    room: usize,
+) -> Verdict
+    ensures { λ r. ⌜ verdictOf r ≡ earlyRefusal (frame (now (numbers .entry)) (now (turnovers .entry)) (now (randoms .entry))) z start (now (panel .entry)) fraction room 0 ⌝ }
+{
+    match frame::judge(numbers, turnovers, randoms, z, start) {
+        Verdict::Refused(why) => Verdict::Refused(why),
+        Verdict::Accepted => judge_old(panel, fraction, room),
+    }
+}

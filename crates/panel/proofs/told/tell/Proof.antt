@@ -1,0 +1,47 @@
+-- What the short list found, where it is sure, and else the last sampled unit.
+use native.Mathlib.Omega.{arith}
+use mathlib.Core.Bool.{true, false}
+use mathlib.Core.Path.{_≡_, refl, _∙_}
+use Rattle.selection.proofs.Logic.{not-both}
+use Rattle.ranking.proofs.ByGaps.{units-of}
+use Rattle.panel.proofs.Short.{reach-at}
+use borrow.Author.Needs.{needs}
+use Rattle.panel.proofs.told.tell.Statement.{statement}
+use Rattle.panel.proofs.told.tell.Tie as tie
+
+reach-of-requires : tie.Need-reach-of-requires
+reach-of-requires c κs = c .before .before .before .pre .0 .size-low
+
+add-find : tie.Need-add-find
+add-find c = omega (arith, c .before .before .before .before .before .pre .0 .few, c .before .before .before .before .before .good)
+
+find-requires : tie.Need-find-requires
+find-requires c κs =
+    let s = c .before .before .before .before .before in
+    (units-of _ _ _ _ _ (s .pre .0) (s .pre .1), reach-at _ _ _ _ _ _ (s .pre .0) (s .pre .1) (c .before .reach-of .ensures))
+
+returns : tie.Need-returns
+returns c =
+    let s = c .before .before .before .before .before .before .before .before in
+    let f = c .before .before .find .ensures (c .if1 .taken) in
+    record {
+      by-bound = λ h. f .bounds;
+      reach-low = λ h. reach-at _ _ _ _ _ _ (s .pre .0) (s .pre .1) (f .reach-is ∙ c .before .before .before .before .reach-of .ensures);
+      by-key = λ h. absurd (not-both true refl h);
+    }
+
+last-sampled-requires : tie.Need-last-sampled-requires
+last-sampled-requires c κs = search needs
+
+returns-2 : tie.Need-returns-2
+returns-2 c =
+    record {
+      by-bound = λ h. absurd (not-both false h refl);
+      reach-low = λ h. absurd (not-both false h refl);
+      by-key = λ h. c .last-sampled .ensures;
+    }
+
+pub tell-spec : {M : Type 1} → statement M
+tell-spec =
+    tie.close
+    (tie.spec reach-of-requires add-find find-requires returns last-sampled-requires returns-2)

@@ -1,0 +1,14 @@
+-- What tells who is sampled under a start: a bound of exactly the panel's units, or the last sampled unit.
+use mathlib.Core.Path.{_≡_}
+use mathlib.Core.Bool.{true, false}
+use mathlib.Core.List.{List}
+use Prim.Native.Nat.{ℕ, _+_, _/_}
+use Rattle.takeall.specs.declared.Group.{Group}
+use Rattle.shortlist.specs.Bound.{Reach, Bounds}
+use Rattle.panel.specs.declared.told.Told.{Told}
+use Rattle.ranking.specs.Sampling.{IsThreshold}
+
+pub record Tells (ts rs gs : List ℕ) (g : Group) (start : ℕ) (s : Told) : Type 0 where
+  pub by-bound : s .sure ≡ true → Bounds ts rs gs start (g .q + g .n) (s .bound)
+  pub reach-low : s .sure ≡ true → Reach ts gs (s .bound .reach)
+  pub by-key : s .sure ≡ false → IsThreshold ts rs g start (s .threshold)
