@@ -15,6 +15,7 @@ use Rattle.rules.specs.Tests.{refuse}
 use Rattle.rules.specs.Lists.{sum, products, anyPair}
 use Rattle.rules.specs.Chain.{Chain, held, badUnits, badIndex, badWeight, badRelative, broken, callRefusal, moved, answerBy, afterBy}
 use Rattle.weights.proofs.Tests.{or-false, within, passed, stops}
+use Rattle.weights.proofs.Units.{units-most}
 use Rattle.weights.proofs.Lists.{products-bound, length-scaled}
 use Rattle.refusals.proofs.Numbers.{number-is-suc, not-none}
 use Rattle.chain.specs.Record.{answerFrom, Reckonable}
@@ -27,10 +28,6 @@ pub record Sound (r : Chain) : Type 0 where
   pub index : r .index ≤ highestIndex
   pub present : sum (held r) ≡ 0 → ⊥
   pub limit : sum (held r) ≤ mostWeight
-
-pub units-most : (n : ℕ) → badUnits n ≡ false → n ≤ mostPanel
-unfolding badUnits
-units-most n e = ltb-false mostPanel n (or-false (eqb n 0) (ltb mostPanel n) e .1)
 
 pub sound-facts : (r : Chain) → broken r ≡ false → Sound r
 unfolding broken badIndex

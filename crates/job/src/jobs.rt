@@ -3,7 +3,7 @@ use super::Job;
 use super::Saying;
 use super::Stepped;
 use chain::Chain;
-use opening::steps::SHARE_SCALE;
+use openinput::SHARE_SCALE;
 ghost use mathlib.Core.Path.{_≡_};
 ghost use mathlib.Core.List.{List};
 ghost use Prim.Native.Nat.{min};

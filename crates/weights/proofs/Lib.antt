@@ -1,4 +1,5 @@
 pub mod Tests
+pub mod Units
 pub mod Lists
 pub mod Marks
 pub mod Refusals

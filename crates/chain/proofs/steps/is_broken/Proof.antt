@@ -9,7 +9,7 @@ use Rattle.rules.specs.Limits.{mostWeight}
 use Rattle.rules.specs.Tests.{_or_}
 use Rattle.rules.specs.Chain.{held, broken}
 use Rattle.weights.proofs.Tests.{cut-over, cut-zero}
-use Rattle.chain.proofs.Calls.{units-most}
+use Rattle.weights.proofs.Units.{units-most}
 use borrow.Author.Needs.{needs}
 use Rattle.chain.proofs.steps.is_broken.Statement.{statement}
 use Rattle.chain.proofs.steps.is_broken.Tie as tie
