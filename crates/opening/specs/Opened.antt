@@ -7,7 +7,8 @@ use Rattle.refusals.specs.declared.Refusal.{Refusal}
 use Rattle.rules.specs.Limits.{mostPanel}
 use Rattle.rules.specs.Chain.{Chain, openRefusal, openRecord}
 use Rattle.rules.specs.Chain as rules
-use Rattle.chain.specs.Record.{recordWith, recordOf}
+use Rattle.figures.specs.Steps.{recordWith}
+use Rattle.chain.specs.Record.{recordOf}
 use Rattle.opening.specs.declared.Opening.{Opening}
 use Rattle.opening.specs.declared.Opening.the-variants.{Accepted, Refused}
 use Rattle.opening.specs.declared.Opened.{Opened}

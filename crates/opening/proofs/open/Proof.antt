@@ -8,7 +8,8 @@ use lib.Seq.{length-take-le}
 use Rattle.refusals.specs.Number.{numberOf, verdictOf}
 use Rattle.rules.specs.Limits.{mostPanel}
 use Rattle.rules.specs.Chain.{openRefusal, openRecord, openAnswer}
-use Rattle.chain.specs.Record.{recordOf, recordWith}
+use Rattle.figures.specs.Steps.{recordWith}
+use Rattle.chain.specs.Record.{recordOf}
 use Rattle.openinput.specs.Input.{inputRefusal}
 use Rattle.openweights.specs.Places.{lowWeights, placesRefusal}
 use Rattle.opening.specs.Opened.{openingOf, openedRecord}

@@ -1,4 +1,5 @@
-// What quarter and close share: the refusals that come first and last, and the figure. The record's places are lent, so that no call copies them.
+// Document 01, "Chain record": what quarter and close share, the refusals that come first and last, and the figure. The record's places are lent,
+// so that no call copies them.
 use refusals::Refusal;
 use refusals::Verdict;
 use relative::Relative;
@@ -12,7 +13,7 @@ ghost use Rattle.refusals.specs.Number.{verdictOf};
 ghost use Rattle.rules.specs.Limits.{mostPanel, mostWeight, highestRelative, linkScale};
 ghost use Rattle.rules.specs.Chain.{broken, callRefusal, figureAt};
 ghost use Rattle.weights.specs.WeightRefusal.{weightRefusal};
-ghost use Rattle.chain.specs.Record.{recordWith, lastRefusal, Reckonable};
+ghost use Rattle.figures.specs.Steps.{recordWith, lastRefusal, Reckonable};
 
 pub const MOST_CLOSES: u64 = 40;
 

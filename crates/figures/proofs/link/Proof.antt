@@ -3,10 +3,10 @@ use native.Mathlib.Omega.{arith}
 use Prim.Native.Nat.{_≤_, _*_}
 use native.Mathlib.Nat.{mod-lt, div-le-of-le-mul, mul-comm}
 use Rattle.rules.specs.Limits.{highestRelative, linkScale}
-use Rattle.chain.proofs.Figure.{two-steps, mean-most}
+use Rattle.figures.proofs.Reckoning.{two-steps, mean-most}
 use borrow.Author.Needs.{needs}
-use Rattle.chain.proofs.steps.link.Statement.{statement}
-use Rattle.chain.proofs.steps.link.Tie as tie
+use Rattle.figures.proofs.link.Statement.{statement}
+use Rattle.figures.proofs.link.Tie as tie
 
 div-whole : tie.Need-div-whole
 div-whole c = search needs

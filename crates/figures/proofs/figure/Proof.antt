@@ -10,10 +10,10 @@ use Rattle.rules.specs.Lists.{products}
 use Rattle.rules.specs.Chain.{link, figureAt}
 use Rattle.weights.proofs.Lists.{products-bound}
 use Rattle.weights.specs.declared.passes.Sums.{Sums}
-use Rattle.chain.proofs.Figure.{mean-most}
+use Rattle.figures.proofs.Reckoning.{mean-most}
 use borrow.Author.Needs.{needs}
-use Rattle.chain.proofs.steps.figure.Statement.{statement}
-use Rattle.chain.proofs.steps.figure.Tie as tie
+use Rattle.figures.proofs.figure.Statement.{statement}
+use Rattle.figures.proofs.figure.Tie as tie
 
 slice-aggregate-weighted-sums : tie.Need-slice-aggregate-weighted-sums
 slice-aggregate-weighted-sums c =

@@ -11,8 +11,8 @@ use Rattle.rules.specs.Chain.{held, broken}
 use Rattle.weights.proofs.Tests.{cut-over, cut-zero}
 use Rattle.weights.proofs.Units.{units-most}
 use borrow.Author.Needs.{needs}
-use Rattle.chain.proofs.steps.is_broken.Statement.{statement}
-use Rattle.chain.proofs.steps.is_broken.Tie as tie
+use Rattle.figures.proofs.is_broken.Statement.{statement}
+use Rattle.figures.proofs.is_broken.Tie as tie
 
 bad-units-requires : tie.Need-bad-units-requires
 bad-units-requires c κs = search needs

@@ -7,10 +7,10 @@ use lib.Seq.{length-take-le}
 use borrow.Author.Tests.{eq-eqb, ne-eqb}
 use Rattle.rules.specs.Tests.{refuse}
 use Rattle.rules.specs.Chain.{held, callRefusal}
-use Rattle.chain.proofs.Calls.{sound-facts}
+use Rattle.figures.proofs.Sound.{sound-facts}
 use borrow.Author.Needs.{needs}
-use Rattle.chain.proofs.steps.judge_call.Statement.{statement}
-use Rattle.chain.proofs.steps.judge_call.Tie as tie
+use Rattle.figures.proofs.judge_call.Statement.{statement}
+use Rattle.figures.proofs.judge_call.Tie as tie
 
 is-broken-requires : tie.Need-is-broken-requires
 is-broken-requires c κs = search needs

@@ -4,10 +4,10 @@ use lib.ListN.{take}
 use lib.Seq.{length-take-le}
 use Rattle.refusals.specs.Number.{verdictOf}
 use Rattle.weights.proofs.Refusals.{weight-stops, weight-goes}
-use Rattle.chain.specs.Record.{lastRefusal}
+use Rattle.figures.specs.Steps.{lastRefusal}
 use borrow.Author.Needs.{needs}
-use Rattle.chain.proofs.steps.judge_close.Statement.{statement}
-use Rattle.chain.proofs.steps.judge_close.Tie as tie
+use Rattle.figures.proofs.judge_close.Statement.{statement}
+use Rattle.figures.proofs.judge_close.Tie as tie
 
 slice-aggregate-judge-weights : tie.Need-slice-aggregate-judge-weights
 slice-aggregate-judge-weights c =

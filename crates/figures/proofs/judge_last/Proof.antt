@@ -3,8 +3,8 @@ use mathlib.Core.Path.{sym, _∙_}
 use borrow.Author.Tests.{le-leb, lt-leb}
 use Rattle.rules.specs.Tests.{refuse}
 use borrow.Author.Needs.{needs}
-use Rattle.chain.proofs.steps.judge_last.Statement.{statement}
-use Rattle.chain.proofs.steps.judge_last.Tie as tie
+use Rattle.figures.proofs.judge_last.Statement.{statement}
+use Rattle.figures.proofs.judge_last.Tie as tie
 
 bad-index-requires : tie.Need-bad-index-requires
 bad-index-requires c κs = search needs
