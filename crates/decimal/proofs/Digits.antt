@@ -1,4 +1,4 @@
--- The digits of a 64-bit number are those of its tenth and one more. A line is its letter, spaces, digits and line feed in turn, at most 44 bytes.
+-- The digits of a 64-bit number are those of its tenth and one more. A line is its letter, spaces, digits and line feed in turn.
 use Prim.Native.Nat.{ℕ, zero, suc, _+_, _*_, _/_, _%_, _^_, _≤_, _<_}
 use mathlib.Core.Path.{_≡_, refl, sym, ap, _∙_}
 use mathlib.Core.Bool.{Bool, true, false}
@@ -9,7 +9,7 @@ use native.Mathlib.Omega.{arith}
 use native.Mathlib.Nat.{pow-suc}
 use borrow.Author.Tests.{lt-ltb, le-ltb, ltb-true, ltb-false}
 use Rattle.rules.specs.Lines.{digitsOn, decimalOn, lineOf, lineOf2}
-use Rattle.lines.specs.Laid.{digitsOf, Put, lineRoom}
+use Rattle.decimal.specs.Put.{digitsOf}
 
 none : (n : ℕ) (text : List ℕ) → digitsOn zero n text ≡ text
 unfolding digitsOn
@@ -105,13 +105,3 @@ line-length letter a = omega (arith, simp length-append at (ap length (line-piec
 
 pub line2-length : (letter a b : ℕ) → length (lineOf2 letter a b) ≡ 4 + length (digitsOf a) + length (digitsOf b)
 line2-length letter a b = omega (arith, simp length-append at (ap length (line2-pieces letter a b)))
-
--- room for the longest line is room for any
-pub line-fits : (letter a at n : ℕ) → at + lineRoom ≤ n → at + length (lineOf letter a) ≤ n
-line-fits letter a at n h = omega (arith, line-length letter a, digits-length a)
-
-pub line2-fits : (letter a b at n : ℕ) → at + lineRoom ≤ n → at + length (lineOf2 letter a b) ≤ n
-line2-fits letter a b at n h = omega (arith, line2-length letter a b, digits-length a, digits-length b)
-
-pub line2-next : (letter a b : ℕ) {at r : ℕ} {o o₁ : List ℕ} → Put at (lineOf2 letter a b) o o₁ r → r ≤ at + lineRoom
-line2-next letter a b {at} put = omega (arith, put .place, line2-fits letter a b at (at + lineRoom) (omega arith))

@@ -5,16 +5,16 @@ use mathlib.Core.Path.{sym, ap}
 use lib.ListN.{length}
 use native.Mathlib.Omega.{arith}
 use borrow.Author.Needs.{needs}
-use Rattle.lines.proofs.Laying.{_then_, says}
-use Rattle.lines.proofs.Digits.{one-digit, one-more, one-more-length}
+use Rattle.decimal.proofs.Laying.{_then_, says}
+use Rattle.decimal.proofs.Digits.{one-digit, one-more, one-more-length}
 use borrow.Fn.Kinds.{In}
 use borrow.Fn.PlainCycle.{Measures, is, falls, and}
-use Rattle.lines.proofs.put_decimal.Reads as put-decimal
-use Rattle.lines.proofs.put_decimal.Kinds as put-decimal-kinds
-use Rattle.lines.proofs.+put_decimal.Lts-put_decimal as put-decimal-lts
-use Rattle.lines.proofs.put_byte.Reads as put-byte-reads
-use Rattle.lines.proofs.+put_decimal.{statement}
-use Rattle.lines.proofs.+put_decimal.Tie.{close}
+use Rattle.decimal.proofs.put_decimal.Reads as put-decimal
+use Rattle.decimal.proofs.put_decimal.Kinds as put-decimal-kinds
+use Rattle.decimal.proofs.+put_decimal.Lts-put_decimal as put-decimal-lts
+use Rattle.decimal.proofs.put_byte.Reads as put-byte-reads
+use Rattle.decimal.proofs.+put_decimal.{statement}
+use Rattle.decimal.proofs.+put_decimal.Tie.{close}
 
 abbrev μ-put-decimal : Measures 1 put-decimal-kinds.ps ℕ
 μ-put-decimal κs a = a .1 .1 .0

@@ -6,8 +6,7 @@ use lib.ListN.{length, take, drop, set, length-append}
 use lib.Seq.{set-split, take-at, drop-append-add, drop-drop, length-take-le}
 use native.Mathlib.Omega.{arith}
 use native.Mathlib.Numerals.{add-one}
-use borrow.Author.Tests.{lt-ltb, le-ltb}
-use Rattle.lines.specs.Laid.{laidAt, Put, laid, laidCount}
+use Rattle.decimal.specs.Put.{laidAt, Put}
 
 -- one byte stored
 pub byte : (buffer : List ℕ) (at b : ℕ) → at + 1 ≤ length buffer → set buffer at b ≡ laidAt at (b ∷ []) buffer
@@ -72,22 +71,3 @@ says {at} {p} {a} {b} {o} {o₁} e put = subst (λ (l : List ℕ). Put at l o o�
 pub nothing : (o : List ℕ) → Put 0 [] o o 0
 unfolding laidAt
 nothing o = record { place = refl; bytes = refl }
-
-module _ (room : ℕ) (text o : List ℕ) where
-  -- a text laid at the front of a buffer with the room
-  pub at-front : {o₁ : List ℕ} {r : ℕ} → room ≤ length o → Put 0 text o o₁ r → (r ≡ laidCount room text o) × (o₁ ≡ laid room text o)
-  unfolding laidAt laid laidCount
-  at-front h put =
-      let start : 0 + length text ≡ length text = omega arith in
-      let fronted : laidAt 0 text o ≡ text ++ drop (length text) o = ap (λ (n : ℕ). text ++ drop n o) start in
-      (simp (le-ltb _ _ h) (put .place ∙ start), simp (le-ltb _ _ h) (put .bytes ∙ fronted))
-
-  -- a buffer without the room stays
-  pub no-room : length o < room → (0 ≡ laidCount room text o) × (o ≡ laid room text o)
-  unfolding laid laidCount
-  no-room h = (simp (lt-ltb _ _ h), simp (lt-ltb _ _ h))
-
-  -- what a caller writes out: the bytes laid are the text
-  pub written : room ≤ length o → take (laidCount room text o) (laid room text o) ≡ text
-  unfolding laid laidCount
-  written h = simp (le-ltb _ _ h) (take-at text (drop (length text) o) (length text) refl)

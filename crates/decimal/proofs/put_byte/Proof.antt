@@ -2,9 +2,9 @@
 use borrow.Author.Needs.{needs}
 use mathlib.Core.Path.{refl}
 use native.Mathlib.Omega.{arith}
-use Rattle.lines.proofs.Laying.{byte}
-use Rattle.lines.proofs.put_byte.Statement.{statement}
-use Rattle.lines.proofs.put_byte.Tie as tie
+use Rattle.decimal.proofs.Laying.{byte}
+use Rattle.decimal.proofs.put_byte.Statement.{statement}
+use Rattle.decimal.proofs.put_byte.Tie as tie
 
 slice-write-out : tie.Need-slice-write-out
 slice-write-out c = search needs
