@@ -15,7 +15,7 @@ use Rattle.rules.specs.Tests.{refuse}
 use Rattle.rules.specs.Lists.{sum, products, anyPair}
 use Rattle.rules.specs.Chain.{Chain, held, badRelative, broken, callRefusal, moved, answerBy, afterBy}
 use Rattle.weights.proofs.Tests.{passed, stops}
-use Rattle.weights.proofs.Lists.{products-bound, length-scaled}
+use Rattle.passes.proofs.Lists.{products-bound, length-scaled}
 use Rattle.refusals.proofs.Numbers.{number-is-suc, not-none}
 use Rattle.figures.specs.Steps.{Reckonable}
 use Rattle.figures.proofs.Sound.{Sound, sound-facts}

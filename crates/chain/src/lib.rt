@@ -3,7 +3,6 @@
 use refusals::Refusal;
 use refusals::Verdict;
 use relative::Relative;
-use weights::passes;
 ghost use mathlib.Core.Path.{_≡_};
 ghost use Rattle.rules.specs.Chain.{Call, answerOf, after};
 ghost use Rattle.chain.specs.Record.{recordOf, answerFrom};

@@ -1,18 +1,17 @@
 // Document 01, "Chain record": what quarter and close share, the refusals that come first and last, and the figure. The record's places are lent,
 // so that no call copies them.
+use passes::MOST_WEIGHT;
 use refusals::Refusal;
 use refusals::Verdict;
 use relative::Relative;
-use weights::MOST_WEIGHT;
 use weights::index::bad_index;
-use weights::passes;
 ghost use mathlib.Core.Path.{_≡_};
 ghost use Prim.Native.Nat.{_+_, _*_, _/_, _<_, _≤_};
 ghost use lib.ListN.{length, take};
 ghost use Rattle.refusals.specs.Number.{verdictOf};
 ghost use Rattle.rules.specs.Limits.{mostPanel, mostWeight, highestRelative, linkScale};
 ghost use Rattle.rules.specs.Chain.{broken, callRefusal, figureAt};
-ghost use Rattle.weights.specs.WeightRefusal.{weightRefusal};
+ghost use Rattle.passes.specs.WeightRefusal.{weightRefusal};
 ghost use Rattle.figures.specs.Steps.{recordWith, lastRefusal, Reckonable};
 
 pub const MOST_CLOSES: u64 = 40;
@@ -99,7 +98,7 @@ pub fn judge_close(places: &[u64], next: &[u64], units: usize, f: u64, closes: u
     requires { ⌜ (units ≤ length (now places)) × (units ≤ length (now next)) ⌝ }
     ensures { λ r. ⌜ verdictOf r ≡ weightRefusal (take units (now (places .entry))) (take units (now (next .entry))) (lastRefusal f closes) ⌝ }
 {
-    let moved = weights::judge_weights(&places[..units], &next[..units]);
+    let moved = passes::judge_weights(&places[..units], &next[..units]);
     match moved {
         Verdict::Refused(why) => Verdict::Refused(why),
         Verdict::Accepted => judge_last(f, closes),

@@ -1,7 +1,7 @@
 // Document 01, "Chain record", open: what is refused of the input, 9 to 13.
+use passes::MOST_WEIGHT;
 use refusals::Refusal;
 use refusals::Verdict;
-use weights::MOST_WEIGHT;
 use weights::bad_relative;
 use weights::bad_units;
 use weights::index::bad_index;

@@ -12,7 +12,7 @@ use Rattle.rules.specs.Tests.{_or_}
 use Rattle.rules.specs.Lists.{scaled, anyPair}
 use Rattle.rules.specs.Chain.{badWeight, opening}
 use Rattle.weights.proofs.Tests.{or-holds, or-second, or-next, or-exchange}
-use Rattle.weights.proofs.Lists.{drop-step, drop-end}
+use Rattle.passes.proofs.Lists.{drop-step, drop-end}
 use Rattle.openweights.specs.Places.{lowWeights}
 
 -- u and v of one unit

@@ -1,11 +1,11 @@
 // Document 01, "Chain record", open: the opening weights u and v, and what is refused of them, 21 and 22.
 use openinput::SHARE_SCALE;
+use passes::MOST_WEIGHT;
+use passes::capped_sum;
 use refusals::Refusal;
 use refusals::Verdict;
 use relative::Relative;
-use weights::MOST_WEIGHT;
 use weights::bad_weight;
-use weights::passes::capped_sum;
 ghost use mathlib.Core.Path.{_≡_};
 ghost use mathlib.Core.Bool.{false};
 ghost use Prim.Native.Nat.{_*_, _/_, _<_, _^_};

@@ -3,7 +3,7 @@ use mathlib.Core.Path.{sym, ap, _∙_}
 use lib.ListN.{take}
 use lib.Seq.{length-take-le}
 use Rattle.refusals.specs.Number.{verdictOf}
-use Rattle.weights.proofs.Refusals.{weight-stops, weight-goes}
+use Rattle.passes.proofs.Refusals.{weight-stops, weight-goes}
 use Rattle.figures.specs.Steps.{lastRefusal}
 use borrow.Author.Needs.{needs}
 use Rattle.figures.proofs.judge_close.Statement.{statement}

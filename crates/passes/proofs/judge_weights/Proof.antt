@@ -3,11 +3,11 @@ use mathlib.Core.Path.{sym, _∙_}
 use borrow.Author.Tests.{lt-ltb, le-ltb}
 use Rattle.rules.specs.Limits.{mostWeight}
 use Rattle.rules.specs.Tests.{refuse}
-use Rattle.weights.specs.WeightRefusal.{weightRefusal}
+use Rattle.passes.specs.WeightRefusal.{weightRefusal}
 use Rattle.weights.proofs.Tests.{cut-over}
 use borrow.Author.Needs.{needs}
-use Rattle.weights.proofs.judge_weights.Statement.{statement}
-use Rattle.weights.proofs.judge_weights.Tie as tie
+use Rattle.passes.proofs.judge_weights.Statement.{statement}
+use Rattle.passes.proofs.judge_weights.Tie as tie
 
 any-low-requires : tie.Need-any-low-requires
 any-low-requires c κs = search needs

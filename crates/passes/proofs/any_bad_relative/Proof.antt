@@ -6,9 +6,9 @@ use Prim.Native.Nat.{_-_, _≤_}
 use lib.ListN.{length, drop}
 use Rattle.rules.specs.Lists.{anyPair}
 use Rattle.rules.specs.Chain.{badRelative}
-use Rattle.weights.proofs.Lists.{pair-found, pair-next, pair-none}
-use Rattle.weights.proofs.passes.any_bad_relative.Statement.{statement}
-use Rattle.weights.proofs.passes.any_bad_relative.Tie as tie
+use Rattle.passes.proofs.Lists.{pair-found, pair-next, pair-none}
+use Rattle.passes.proofs.any_bad_relative.Statement.{statement}
+use Rattle.passes.proofs.any_bad_relative.Tie as tie
 
 abbrev Inv-loop : tie.InvT-loop
 Inv-loop marks p i₀ i = (i ≤ length marks) × (anyPair badRelative (drop i marks) (drop i p) ≡ anyPair badRelative marks p)

@@ -10,8 +10,8 @@ use Rattle.rules.specs.Limits.{mostWeight}
 use Rattle.rules.specs.Tests.{refuse}
 use Rattle.rules.specs.Lists.{sum, anyPair}
 use Rattle.rules.specs.Chain.{badWeight}
-use Rattle.weights.specs.WeightRefusal.{weightRefusal}
+use Rattle.passes.specs.WeightRefusal.{weightRefusal}
 use Rattle.weights.proofs.Tests.{passed, stops}
 
 -- 21 or 22 stands, whatever is asked later
 pub weight-stops : (marks weights : List ℕ) (later : ℕ) (why : Refusal) → numberOf why ≡ weightRefusal marks weights 0 → weightRefusal marks weights later ≡ numberOf why

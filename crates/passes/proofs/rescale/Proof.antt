@@ -5,9 +5,9 @@ use mathlib.Core.Path.{_≡_, refl, sym, ap, _∙_}
 use Prim.Native.Nat.{ℕ, _-_, _≤_, _<_}
 use native.Mathlib.Numerals.{add-one}
 use lib.ListN.{length, getD, length-set}
-use Rattle.weights.proofs.Lists.{product-le, scaledTo, scaledTo-none, scaledTo-at, scaledTo-step, scaledTo-all}
-use Rattle.weights.proofs.passes.rescale.Statement.{statement}
-use Rattle.weights.proofs.passes.rescale.Tie as tie
+use Rattle.passes.proofs.Lists.{product-le, scaledTo, scaledTo-none, scaledTo-at, scaledTo-step, scaledTo-all}
+use Rattle.passes.proofs.rescale.Statement.{statement}
+use Rattle.passes.proofs.rescale.Tie as tie
 
 abbrev Inv-loop : tie.InvT-loop
 Inv-loop v₀ p scale i₀ v i = (i ≤ length v₀) × (length v ≡ length v₀) × (v ≡ scaledTo scale i v₀ p)

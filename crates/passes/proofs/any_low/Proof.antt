@@ -4,11 +4,11 @@ use Prim.Native.Nat.{_-_, _≤_}
 use lib.ListN.{length, drop}
 use Rattle.rules.specs.Lists.{anyPair}
 use Rattle.rules.specs.Chain.{badWeight}
-use Rattle.weights.proofs.Lists.{pair-found, pair-next, pair-none}
+use Rattle.passes.proofs.Lists.{pair-found, pair-next, pair-none}
 use native.Mathlib.Omega.{arith}
 use borrow.Author.Needs.{needs}
-use Rattle.weights.proofs.passes.any_low.Statement.{statement}
-use Rattle.weights.proofs.passes.any_low.Tie as tie
+use Rattle.passes.proofs.any_low.Statement.{statement}
+use Rattle.passes.proofs.any_low.Tie as tie
 
 abbrev Inv-loop : tie.InvT-loop
 Inv-loop marks weights i₀ i = (i ≤ length marks) × (anyPair badWeight (drop i marks) (drop i weights) ≡ anyPair badWeight marks weights)

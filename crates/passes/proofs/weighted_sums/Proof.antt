@@ -4,9 +4,9 @@ use mathlib.Core.Path.{_≡_}
 use Prim.Native.Nat.{_+_, _-_, _≤_, _<_}
 use lib.ListN.{length, drop}
 use Rattle.rules.specs.Lists.{sum, products}
-use Rattle.weights.proofs.Lists.{sum-step, sum-end, products-step, products-end}
-use Rattle.weights.proofs.passes.weighted_sums.Statement.{statement}
-use Rattle.weights.proofs.passes.weighted_sums.Tie as tie
+use Rattle.passes.proofs.Lists.{sum-step, sum-end, products-step, products-end}
+use Rattle.passes.proofs.weighted_sums.Statement.{statement}
+use Rattle.passes.proofs.weighted_sums.Tie as tie
 
 abbrev Inv-loop : tie.InvT-loop
 Inv-loop v p total₀ acc₀ i₀ total acc i = (i ≤ length v) × (total + sum (drop i v) ≡ sum v) × (acc + sum (products (drop i v) (drop i p)) ≡ sum (products v p))

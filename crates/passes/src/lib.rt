@@ -1,13 +1,19 @@
-// One pass each over the units' lists.
-use crate::MOST_WEIGHT;
-use crate::bad_relative;
-use crate::bad_weight;
+// Document 01, "Chain record" and its refusals: one pass each over the weights and relatives of all units. Open, quarter and close
+// are made of these and of the tests of one unit (crate `weights`).
+use refusals::Refusal;
+use refusals::Verdict;
+use weights::bad_relative;
+use weights::bad_weight;
 ghost use mathlib.Core.Path.{_≡_};
 ghost use Prim.Native.Nat.{_+_, _<_, _^_, min};
 ghost use lib.ListN.{length};
+ghost use Rattle.refusals.specs.Number.{verdictOf};
 ghost use Rattle.rules.specs.Limits.{mostWeight};
 ghost use Rattle.rules.specs.Lists.{sum, products, scaled, anyPair};
 ghost use Rattle.rules.specs.Chain.{badRelative, badWeight};
+ghost use Rattle.passes.specs.WeightRefusal.{weightRefusal};
+
+pub const MOST_WEIGHT: u64 = 100_000_000_000_000;
 
 // The sum of the weights, cut off above the limit so that no list makes it wrap.
 pub fn capped_sum(weights: &[u64]) -> u64
@@ -94,4 +100,18 @@ pub fn rescale(v: &mut [u64], p: &[u32], scale: u64)
         v[i] = moved;
         i += 1;
     }
+}
+
+// 21 and 22 of the weights that an open or a close would leave.
+pub fn judge_weights(marks: &[u64], weights: &[u64]) -> Verdict
+    requires { ⌜ length (now marks) ≡ length (now weights) ⌝ }
+    ensures { λ r. ⌜ verdictOf r ≡ weightRefusal (now (marks .entry)) (now (weights .entry)) 0 ⌝ }
+{
+    if any_low(marks, weights) {
+        return Verdict::Refused(Refusal::LowWeight);
+    }
+    if MOST_WEIGHT < capped_sum(weights) {
+        return Verdict::Refused(Refusal::WeightSum);
+    }
+    Verdict::Accepted
 }

@@ -5,9 +5,9 @@ use Prim.Native.Nat.{_+_, _-_, _≤_}
 use lib.ListN.{length, drop}
 use Rattle.rules.specs.Limits.{mostWeight}
 use Rattle.rules.specs.Lists.{sum}
-use Rattle.weights.proofs.Lists.{sum-step, sum-end}
-use Rattle.weights.proofs.passes.capped_sum.Statement.{statement}
-use Rattle.weights.proofs.passes.capped_sum.Tie as tie
+use Rattle.passes.proofs.Lists.{sum-step, sum-end}
+use Rattle.passes.proofs.capped_sum.Statement.{statement}
+use Rattle.passes.proofs.capped_sum.Tie as tie
 
 abbrev Inv-loop : tie.InvT-loop
 Inv-loop weights acc₀ i₀ acc i = (i ≤ length weights) × (acc ≤ mostWeight) × (acc + sum (drop i weights) ≡ sum weights)
