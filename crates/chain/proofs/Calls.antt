@@ -4,49 +4,23 @@ use mathlib.Core.Bool.{false, not}
 use mathlib.Core.List.{List, _++_}
 use Prim.Native.Nat.{ℕ, _<_, _≤_, _^_}
 use native.Mathlib.Omega.{arith}
-use lib.Dec.{ltb, eqb}
+use lib.Dec.{eqb}
 use lib.ListN.{length, take, drop, length-append, length-drop}
 use lib.Seq.{length-take-le, take-at}
-use borrow.Author.Tests.{ltb-false, eqb-true, eqb-false, not-false}
+use borrow.Author.Tests.{eqb-true, not-false}
 use Rattle.refusals.specs.Number.{numberOf}
 use Rattle.refusals.specs.declared.Refusal.{Refusal}
-use Rattle.rules.specs.Limits.{relativeScale, mostPanel, mostWeight, mostCloses, lowestIndex, highestIndex}
+use Rattle.rules.specs.Limits.{relativeScale, mostPanel}
 use Rattle.rules.specs.Tests.{refuse}
 use Rattle.rules.specs.Lists.{sum, products, anyPair}
-use Rattle.rules.specs.Chain.{Chain, held, badUnits, badIndex, badWeight, badRelative, broken, callRefusal, moved, answerBy, afterBy}
-use Rattle.weights.proofs.Tests.{or-false, within, passed, stops}
-use Rattle.weights.proofs.Lists.{products-bound, length-scaled}
+use Rattle.rules.specs.Chain.{Chain, held, badRelative, broken, callRefusal, moved, answerBy, afterBy}
+use Rattle.weights.proofs.Tests.{passed, stops}
+use Rattle.passes.proofs.Lists.{products-bound, length-scaled}
 use Rattle.refusals.proofs.Numbers.{number-is-suc, not-none}
-use Rattle.chain.specs.Record.{answerFrom, Reckonable}
+use Rattle.figures.specs.Steps.{Reckonable}
+use Rattle.figures.proofs.Sound.{Sound, sound-facts}
+use Rattle.chain.specs.Record.{answerFrom}
 use Rattle.chain.specs.declared.Answer.the-variants.{Figure, Refused}
-
--- what a record within its limits has
-pub record Sound (r : Chain) : Type 0 where
-  pub most : r .units ≤ mostPanel
-  pub closes : r .closes ≤ mostCloses
-  pub index : r .index ≤ highestIndex
-  pub present : sum (held r) ≡ 0 → ⊥
-  pub limit : sum (held r) ≤ mostWeight
-
-pub units-most : (n : ℕ) → badUnits n ≡ false → n ≤ mostPanel
-unfolding badUnits
-units-most n e = ltb-false mostPanel n (or-false (eqb n 0) (ltb mostPanel n) e .1)
-
-pub sound-facts : (r : Chain) → broken r ≡ false → Sound r
-unfolding broken badIndex
-sound-facts r e =
-    let limit = or-false _ (ltb mostWeight (sum (held r))) e in
-    let present = or-false _ (eqb (sum (held r)) 0) (limit .0) in
-    let low = or-false _ (anyPair badWeight (held r) (held r)) (present .0) in
-    let index = or-false _ (badIndex (r .index)) (low .0) in
-    let closes = or-false (badUnits (r .units)) (ltb mostCloses (r .closes)) (index .0) in
-    record {
-      most = units-most (r .units) (closes .0);
-      closes = ltb-false mostCloses (r .closes) (closes .1);
-      index = within lowestIndex highestIndex (r .index) (index .1) .1;
-      present = eqb-false (sum (held r)) 0 (present .1);
-      limit = ltb-false mostWeight (sum (held r)) (limit .1);
-    }
 
 pub record Admitted (r : Chain) (ps : List ℕ) : Type 0 where
   pub sound : Sound r

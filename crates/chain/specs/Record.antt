@@ -1,23 +1,10 @@
 -- Document 01, "Chain record": the record and the answer of the code as those of `rules`.
-use Prim.Native.Nat.{ℕ, _<_, _≤_}
-use mathlib.Core.Path.{_≡_}
-use mathlib.Core.Bool.{false}
-use mathlib.Core.List.{List}
-use lib.Dec.{leb}
-use lib.ListN.{length}
 use Rattle.refusals.specs.Number.{numberOf}
-use Rattle.rules.specs.Limits.{mostWeight, highestIndex, mostCloses}
-use Rattle.rules.specs.Tests.{refuse}
-use Rattle.rules.specs.Lists.{sum, anyPair}
 use Rattle.rules.specs.Chain as rules
+use Rattle.figures.specs.Steps.{recordWith}
 use Rattle.chain.specs.declared.Chain.{Chain}
 use Rattle.chain.specs.declared.Answer.{Answer}
 use Rattle.chain.specs.declared.Answer.the-variants.{Figure, Refused}
-
--- a record of these places and numbers
-abbrev pub recordWith : List ℕ → ℕ → ℕ → ℕ → rules.Chain
-recordWith places units index closes =
-    record { weights = places; units = units; index = index; closes = closes }
 
 -- the code's record, with every place of its array
 abbrev pub recordOf : Chain → rules.Chain
@@ -27,15 +14,3 @@ recordOf c = recordWith (c .weights) (c .units) (c .index) (c .closes)
 abbrev pub answerFrom : Answer → rules.Answer
 answerFrom (Figure f) = rules.Answer.figure f
 answerFrom (Refused why) = rules.Answer.refused (numberOf why)
-
--- 23 and 24 by the figure and the closes: `lateRefusal` of `rules` at a call's figure
-abbrev pub lastRefusal : ℕ → ℕ → ℕ
-lastRefusal f closes = refuse (rules.badIndex f) 23 (refuse (leb mostCloses closes) 24 0)
-
--- what a figure needs of the units' v, the index and the relatives so that no number on the way is too large
-pub record Reckonable (held : List ℕ) (index : ℕ) (ps : List ℕ) : Type 0 where
-  pub long : length held ≡ length ps
-  pub relatives : anyPair rules.badRelative held ps ≡ false
-  pub present : 0 < sum held
-  pub limit : sum held ≤ mostWeight
-  pub inRange : index ≤ highestIndex

@@ -1,10 +1,8 @@
-// Document 01, "Chain record": quarter and close, by value on the record. Opening a record is the crate `opening`.
-pub mod steps;
-
+// Document 01, "Chain record": quarter and close, by value on the record. The crate `figures` has the steps of both; opening a record is
+// the crate `opening`.
 use refusals::Refusal;
 use refusals::Verdict;
 use relative::Relative;
-use weights::passes;
 ghost use mathlib.Core.Path.{_≡_};
 ghost use Rattle.rules.specs.Chain.{Call, answerOf, after};
 ghost use Rattle.chain.specs.Record.{recordOf, answerFrom};
@@ -37,15 +35,15 @@ impl Chain {
         let n = self.units;
         let index = self.index;
         let closes = self.closes;
-        let entry = steps::judge_call(&self.weights, n, index, closes, p);
+        let entry = figures::judge_call(&self.weights, n, index, closes, p);
         match entry {
             Verdict::Refused(why) => Answered {
                 chain: self,
                 answer: Answer::Refused(why),
             },
             Verdict::Accepted => {
-                let f = steps::figure(&self.weights, n, index, p);
-                let last = steps::judge_last(f, closes);
+                let f = figures::figure(&self.weights, n, index, p);
+                let last = figures::judge_last(f, closes);
                 match last {
                     Verdict::Refused(why) => Answered {
                         chain: self,
@@ -68,17 +66,17 @@ impl Chain {
         let n = self.units;
         let index = self.index;
         let closes = self.closes;
-        let entry = steps::judge_call(&self.weights, n, index, closes, p);
+        let entry = figures::judge_call(&self.weights, n, index, closes, p);
         match entry {
             Verdict::Refused(why) => Answered {
                 chain: self,
                 answer: Answer::Refused(why),
             },
             Verdict::Accepted => {
-                let f = steps::figure(&self.weights, n, index, p);
+                let f = figures::figure(&self.weights, n, index, p);
                 let mut next = self.weights;
                 passes::rescale(&mut next[..n], p, Relative::SCALE);
-                let rest = steps::judge_close(&self.weights, &next, n, f, closes);
+                let rest = figures::judge_close(&self.weights, &next, n, f, closes);
                 match rest {
                     Verdict::Refused(why) => Answered {
                         chain: self,

@@ -1,7 +1,7 @@
 // Document 01, "Job stream": what a job holds, what a command says, and the jobs that commands leave.
 // A job is held by value, and any value of the type is a job: a count beyond an array's places reads as all of them.
 use chain::Chain;
-use opening::steps::SHARE_SCALE;
+use openinput::SHARE_SCALE;
 use refusals::Refusal;
 ghost use mathlib.Core.Path.{_≡_};
 ghost use mathlib.Core.List.{List};

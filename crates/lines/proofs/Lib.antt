@@ -1,3 +1,2 @@
-pub mod Laying
-pub mod Digits
+pub mod Room
 pub mod Panel

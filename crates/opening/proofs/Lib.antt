@@ -1,3 +1,2 @@
-pub mod Input
-pub mod Filling
+pub mod Fitting
 pub mod Answers

@@ -1,6 +1,4 @@
 // Document 01, "Chain record": the opening of a chain record from base weights W, shares g, updating relatives a and a start index.
-pub mod steps;
-
 use chain::Chain;
 use refusals::Refusal;
 use refusals::Verdict;
@@ -48,13 +46,13 @@ pub fn open(w: &[u64], g: &[u32], a: &[u32], start: u64) -> Opened
     ensures { λ r. ⌜ openingOf r ≡ openAnswer (now (w .entry)) (now (g .entry)) (now (a .entry)) start ⌝ }
     ensures { λ r. ⌜ recordOf (r .chain) ≡ openedRecord (now (w .entry)) (now (g .entry)) (now (a .entry)) start ⌝ }
 {
-    let input = steps::judge_input(w, g, a, start);
+    let input = openinput::judge_input(w, g, a, start);
     match input {
         Verdict::Refused(why) => refused(why),
         Verdict::Accepted => {
             let n = w.len();
             let mut places = blank();
-            let filled = steps::judge_places(w, g, a, &mut places[..n]);
+            let filled = openweights::judge_places(w, g, a, &mut places[..n]);
             match filled {
                 Verdict::Refused(why) => refused(why),
                 Verdict::Accepted => {

@@ -6,7 +6,7 @@ use lib.ListN.{length, take, drop}
 use lib.Seq.{paste, length-take-le}
 use native.Mathlib.Omega.{arith}
 use borrow.Author.Tests.{lt-ltb, le-ltb}
-use Rattle.lines.specs.Laid.{laidAt}
+use Rattle.decimal.specs.Put.{laidAt}
 use Rattle.output.specs.Printed.{fitted}
 
 pub room : (out part : List ℕ) (at : ℕ) → at + length part ≤ length out → fitted at part out ≡ laidAt at part out

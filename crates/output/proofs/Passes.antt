@@ -13,7 +13,8 @@ use Rattle.rules.specs.Limits.{mostStream}
 use Rattle.rules.specs.Stream.{Reading, frontRefusal, commandOf, readingBy, reading, restOf}
 use Rattle.rules.specs.Job.{Job, emptyJob, printed, output}
 use Rattle.jobstate.specs.State.{jobOf}
-use Rattle.lines.specs.Laid.{laidAt, panelRoom}
+use Rattle.decimal.specs.Put.{laidAt}
+use Rattle.lines.specs.Laid.{panelRoom}
 use Rattle.run.specs.declared.Turned.{Turned}
 use Rattle.run.specs.Turn.{Turn, turnBy, turnOf, onto, Renders}
 use Rattle.run.proofs.Whole.{by-turns, rest-shorter, shown, by-limit}

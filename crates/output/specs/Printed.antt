@@ -8,7 +8,7 @@ use lib.Dec.{ltb}
 use Rattle.rules.specs.Tests.{refuse}
 use Rattle.rules.specs.Job.{output}
 use Rattle.refusals.specs.Number.{numberOf}
-use Rattle.lines.specs.Laid.{laidAt}
+use Rattle.decimal.specs.Put.{laidAt}
 use Rattle.run.specs.Turn.{onto}
 use Rattle.output.specs.declared.Answer.{Answer}
 use Rattle.output.specs.declared.Answer.the-variants.{Laid, Refused}

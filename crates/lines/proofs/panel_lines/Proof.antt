@@ -3,7 +3,7 @@ use borrow.Author.Needs.{needs}
 use Prim.Native.Nat.{_*_, _≤_, _<_}
 use lib.ListN.{length}
 use native.Mathlib.Omega.{arith}
-use Rattle.lines.proofs.Laying.{at-front, no-room}
+use Rattle.lines.proofs.Room.{at-front, no-room}
 use Rattle.lines.specs.Laid.{lineRoom}
 use Rattle.rules.specs.Lines.{panelLines}
 use Rattle.lines.proofs.panel_lines.Statement.{statement}

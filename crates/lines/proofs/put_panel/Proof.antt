@@ -6,9 +6,10 @@ use mathlib.Core.List.{_++_}
 use lib.ListN.{length, take, getD}
 use native.Mathlib.Omega.{arith}
 use Rattle.lines.proofs.Panel.{one-unit, all-units, no-units}
-use Rattle.lines.proofs.Digits.{line2-fits, line2-next}
-use Rattle.lines.proofs.Laying.{_then_, says, nothing}
-use Rattle.lines.specs.Laid.{lineRoom, Put}
+use Rattle.lines.proofs.Room.{line2-fits, line2-next}
+use Rattle.decimal.proofs.Laying.{_then_, says, nothing}
+use Rattle.decimal.specs.Put.{Put}
+use Rattle.lines.specs.Laid.{lineRoom}
 use Rattle.rules.specs.Lines.{lineOf2, panelLines}
 use Rattle.lines.proofs.put_panel.Statement.{statement}
 use Rattle.lines.proofs.put_panel.Tie as tie

@@ -1,7 +1,6 @@
 -- A line laid at the front, where the buffer has room for the longest.
 use borrow.Author.Needs.{needs}
-use Rattle.lines.proofs.Digits.{line-fits}
-use Rattle.lines.proofs.Laying.{at-front, no-room}
+use Rattle.lines.proofs.Room.{line-fits, at-front, no-room}
 use Rattle.lines.specs.Laid.{lineRoom}
 use Rattle.rules.specs.Lines.{quarterLine}
 use Rattle.lines.proofs.quarter_line.Statement.{statement}

@@ -8,10 +8,14 @@ use lib.Seq.{length-take-le}
 use Rattle.refusals.specs.Number.{numberOf, verdictOf}
 use Rattle.rules.specs.Limits.{mostPanel}
 use Rattle.rules.specs.Chain.{openRefusal, openRecord, openAnswer}
-use Rattle.chain.specs.Record.{recordOf, recordWith}
-use Rattle.opening.specs.Opened.{inputRefusal, lowWeights, placesRefusal, openingOf, openedRecord}
+use Rattle.figures.specs.Steps.{recordWith}
+use Rattle.chain.specs.Record.{recordOf}
+use Rattle.openinput.specs.Input.{inputRefusal}
+use Rattle.openweights.specs.Places.{lowWeights, placesRefusal}
+use Rattle.opening.specs.Opened.{openingOf, openedRecord}
 use Rattle.opening.specs.declared.Opened.{Opened}
-use Rattle.opening.proofs.Input.{input, input-stops, input-goes, fillable}
+use Rattle.openinput.proofs.Input.{input, input-stops, input-goes}
+use Rattle.opening.proofs.Fitting.{fillable}
 use Rattle.opening.proofs.Answers.{refused-answer, refused-record, accepted-answer, accepted-record, drop-blank}
 use borrow.Author.Needs.{needs}
 use Rattle.opening.proofs.open.Statement.{statement}

@@ -3,7 +3,7 @@ use mathlib.Core.Path.{_≡_, ap}
 use mathlib.Core.List.{List}
 use Prim.Native.Nat.{ℕ}
 use lib.ListN.{getD}
-use Rattle.chain.specs.Record.{recordWith}
+use Rattle.figures.specs.Steps.{recordWith}
 use borrow.Author.Needs.{needs}
 use Rattle.boundary.proofs.record.load.Statement.{statement}
 use Rattle.boundary.proofs.record.load.Tie as tie

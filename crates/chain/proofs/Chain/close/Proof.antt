@@ -8,8 +8,9 @@ use lib.ListN.{length, take, drop}
 use Rattle.refusals.specs.Number.{numberOf, verdictOf}
 use Rattle.rules.specs.Limits.{mostPanel}
 use Rattle.rules.specs.Chain.{Call, held, callRefusal, figureOf, moved, lateRefusal, refusalOf, accepted, answerOf, after}
-use Rattle.weights.specs.WeightRefusal.{weightRefusal}
-use Rattle.chain.specs.Record.{recordOf, recordWith, lastRefusal}
+use Rattle.passes.specs.WeightRefusal.{weightRefusal}
+use Rattle.figures.specs.Steps.{recordWith, lastRefusal}
+use Rattle.chain.specs.Record.{recordOf}
 use Rattle.chain.proofs.Calls.{admitted, call-stops, call-goes, units-fit, length-held, reckonable, products-fit, take-moved, length-next, refused-answer, refused-record, figure-answer, figure-record}
 use borrow.Author.Needs.{needs}
 use Rattle.chain.proofs.Chain.close.Statement.{statement}

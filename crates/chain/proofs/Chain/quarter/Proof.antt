@@ -5,7 +5,8 @@ use lib.ListN.{length}
 use Rattle.refusals.specs.Number.{numberOf, verdictOf}
 use Rattle.rules.specs.Limits.{mostPanel}
 use Rattle.rules.specs.Chain.{Call, held, callRefusal, figureOf, lateRefusal, refusalOf, answerOf, after}
-use Rattle.chain.specs.Record.{recordOf, lastRefusal}
+use Rattle.figures.specs.Steps.{lastRefusal}
+use Rattle.chain.specs.Record.{recordOf}
 use Rattle.chain.proofs.Calls.{admitted, call-stops, call-goes, units-fit, reckonable, refused-answer, refused-record, figure-answer, figure-record}
 use borrow.Author.Needs.{needs}
 use Rattle.chain.proofs.Chain.quarter.Statement.{statement}

@@ -1,0 +1,106 @@
+// Document 01, "Chain record": what quarter and close share, the refusals that come first and last, and the figure. The record's places are lent,
+// so that no call copies them.
+use passes::MOST_WEIGHT;
+use refusals::Refusal;
+use refusals::Verdict;
+use relative::Relative;
+use weights::index::bad_index;
+ghost use mathlib.Core.Path.{_≡_};
+ghost use Prim.Native.Nat.{_+_, _*_, _/_, _<_, _≤_};
+ghost use lib.ListN.{length, take};
+ghost use Rattle.refusals.specs.Number.{verdictOf};
+ghost use Rattle.rules.specs.Limits.{mostPanel, mostWeight, highestRelative, linkScale};
+ghost use Rattle.rules.specs.Chain.{broken, callRefusal, figureAt};
+ghost use Rattle.passes.specs.WeightRefusal.{weightRefusal};
+ghost use Rattle.figures.specs.Steps.{recordWith, lastRefusal, Reckonable};
+
+pub const MOST_CLOSES: u64 = 40;
+
+pub const LINK_SCALE: u64 = 10_000;
+
+// 19: whether the record breaks a limit. The number of units is judged before the places are looked at.
+fn is_broken(places: &[u64], units: usize, index: u64, closes: u64) -> bool
+    requires { ⌜ length (now places) ≡ mostPanel ⌝ }
+    ensures { λ r. ⌜ r ≡ broken (recordWith (now (places .entry)) units index closes) ⌝ }
+{
+    if weights::bad_units(units) {
+        return true;
+    }
+    if MOST_CLOSES < closes {
+        return true;
+    }
+    if bad_index(index) {
+        return true;
+    }
+    let held = &places[..units];
+    if passes::any_low(held, held) {
+        return true;
+    }
+    let sum = passes::capped_sum(held);
+    if sum == 0 {
+        return true;
+    }
+    MOST_WEIGHT < sum
+}
+
+// 19, 9 and 13.
+pub fn judge_call(places: &[u64], units: usize, index: u64, closes: u64, p: &[u32]) -> Verdict
+    requires { ⌜ length (now places) ≡ mostPanel ⌝ }
+    ensures { λ r. ⌜ verdictOf r ≡ callRefusal (recordWith (now (places .entry)) units index closes) (now (p .entry)) 0 ⌝ }
+{
+    if is_broken(places, units, index, closes) {
+        return Verdict::Refused(Refusal::State);
+    }
+    if p.len() != units {
+        return Verdict::Refused(Refusal::UnitLists);
+    }
+    if passes::any_bad_relative(&places[..units], p) {
+        return Verdict::Refused(Refusal::Relatives);
+    }
+    Verdict::Accepted
+}
+
+// L = floor(N × 10,000 / V) by quotient and remainder, since N × 10,000 need not fit.
+fn link(n: u64, v: u64) -> u64
+    requires { ⌜ (0 < v) × (v ≤ mostWeight) × (n ≤ highestRelative * v) ⌝ }
+    ensures { λ r. ⌜ r ≡ n * linkScale / v ⌝ }
+{
+    let whole = n / v;
+    let rest = n % v;
+    LINK_SCALE * whole + LINK_SCALE * rest / v
+}
+
+// F of an admitted call.
+pub fn figure(places: &[u64], units: usize, index: u64, p: &[u32]) -> u64
+    requires { ⌜ (units ≤ length (now places)) × Reckonable (take units (now places)) index (now p) ⌝ }
+    ensures { λ r. ⌜ r ≡ figureAt index (take units (now (places .entry))) (now (p .entry)) ⌝ }
+{
+    let sums = passes::weighted_sums(&places[..units], p);
+    let l = link(sums.products, sums.weights);
+    index * l / (LINK_SCALE * Relative::SCALE)
+}
+
+// 23 and 24.
+pub fn judge_last(f: u64, closes: u64) -> Verdict
+    ensures { λ r. ⌜ verdictOf r ≡ lastRefusal f closes ⌝ }
+{
+    if bad_index(f) {
+        return Verdict::Refused(Refusal::FigureRange);
+    }
+    if MOST_CLOSES <= closes {
+        return Verdict::Refused(Refusal::ClosesSpent);
+    }
+    Verdict::Accepted
+}
+
+// 21 and 22 of the units' new weights, beside those that they had, and then 23 and 24.
+pub fn judge_close(places: &[u64], next: &[u64], units: usize, f: u64, closes: u64) -> Verdict
+    requires { ⌜ (units ≤ length (now places)) × (units ≤ length (now next)) ⌝ }
+    ensures { λ r. ⌜ verdictOf r ≡ weightRefusal (take units (now (places .entry))) (take units (now (next .entry))) (lastRefusal f closes) ⌝ }
+{
+    let moved = passes::judge_weights(&places[..units], &next[..units]);
+    match moved {
+        Verdict::Refused(why) => Verdict::Refused(why),
+        Verdict::Accepted => judge_last(f, closes),
+    }
+}

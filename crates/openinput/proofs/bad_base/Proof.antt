@@ -1,0 +1,94 @@
+-- `bad_base`: the sum so far and the units left make the whole sum, and no W so far was 0.
+use native.Mathlib.Omega.{arith}
+use mathlib.Core.Path.{_≡_, refl, sym, _∙_}
+use Prim.Native.Nat.{_+_, _-_, _≤_, _<_}
+use lib.Dec.{eqb}
+use lib.ListN.{length, drop}
+use borrow.Author.Tests.{lt-ltb, le-ltb, eq-eqb, ne-eqb}
+use Rattle.rules.specs.Limits.{mostWeight}
+use Rattle.rules.specs.Lists.{sum, anyOf}
+use Rattle.rules.specs.Chain.{badBase}
+use Rattle.weights.proofs.Tests.{or-holds, or-second, or-next}
+use Rattle.passes.proofs.Lists.{sum-step, sum-end, one-found, one-next, one-none}
+use Rattle.openinput.proofs.bad_base.Statement.{statement}
+use Rattle.openinput.proofs.bad_base.Tie as tie
+
+abbrev Inv-loop : tie.InvT-loop
+Inv-loop w total₀ i₀ total i = (i ≤ length w) × (total ≤ mostWeight) × (total + sum (drop i w) ≡ sum w) × (anyOf (λ x. eqb x 0) (drop i w) ≡ anyOf (λ x. eqb x 0) w)
+
+abbrev μ-loop : tie.MeasureT-loop
+μ-loop w total₀ i₀ total i = length w - i
+
+loop-holds : tie.Need-loop-holds Inv-loop μ-loop
+loop-holds c = (omega arith, omega arith, omega arith, refl)
+
+mul-x : tie.Need-mul-x Inv-loop μ-loop
+mul-x c = omega arith
+
+shared-slice-read-x : tie.Need-shared-slice-read-x Inv-loop μ-loop
+shared-slice-read-x c = omega arith
+
+returns : tie.Need-returns Inv-loop μ-loop
+unfolding badBase
+returns c =
+    let l = c .before .before .before .loop in
+    let w = c .before .before .before .before .args .w .now in
+    let i = l .i in
+    sym (or-holds _ _ (sym (one-found (λ x. eqb x 0) w i _ (l .inv .3) (c .before .before .loop-test .taken) (eq-eqb _ _ (c .if1 .taken)))))
+
+sub-if2 : tie.Need-sub-if2 Inv-loop μ-loop
+sub-if2 c = omega arith
+
+returns-2 : tie.Need-returns-2 Inv-loop μ-loop
+unfolding badBase
+returns-2 c =
+    let l = c .before .before .before .before .loop in
+    let w = c .before .before .before .before .before .args .w .now in
+    let i = l .i in
+    let h : mostWeight < sum w = omega (arith, sum-step w i (c .before .before .before .loop-test .taken)) in
+    sym (or-second _ _ (lt-ltb mostWeight (sum w) h))
+
+add-total : tie.Need-add-total Inv-loop μ-loop
+add-total c = omega arith
+
+add-i : tie.Need-add-i Inv-loop μ-loop
+add-i c = omega arith
+
+loop-less : tie.Need-loop-less Inv-loop μ-loop
+loop-less c = omega arith
+
+loop-again : tie.Need-loop-again Inv-loop μ-loop
+loop-again c =
+    let l = c .before .before .before .before .loop in
+    let w = c .before .before .before .before .before .args .w .now in
+    let i = l .i in
+    let s = sum-step w i (c .before .before .before .loop-test .taken) in
+    let e = one-next (λ x. eqb x 0) w i _ (l .inv .3) (c .before .before .before .loop-test .taken) (ne-eqb _ _ (c .before .if1 .left)) in
+    (omega arith, omega arith, omega arith, e)
+
+returns-3 : tie.Need-returns-3 Inv-loop μ-loop
+unfolding badBase
+returns-3 c =
+    let l = c .before .loop in
+    let w = c .before .before .args .w .now in
+    let i = l .i in
+    let h : sum w ≤ mostWeight = omega (arith, sum-end w i (c .loop-test .left)) in
+    sym (or-next _ _ (sym (one-none (λ x. eqb x 0) w i _ (l .inv .3) (c .loop-test .left))) ∙ le-ltb mostWeight (sum w) h)
+
+pub bad-base-spec : {M : Type 1} → statement M
+bad-base-spec =
+    tie.close
+    (tie.spec
+    Inv-loop
+    μ-loop
+    loop-holds
+    mul-x
+    shared-slice-read-x
+    returns
+    sub-if2
+    returns-2
+    add-total
+    add-i
+    loop-less
+    loop-again
+    returns-3)

@@ -1,0 +1,31 @@
+-- `bad_lists` asks the three tests of 9 one after the other.
+use mathlib.Core.Bool.{not}
+use mathlib.Core.Path.{sym, ap, _∙_}
+use Rattle.weights.proofs.Tests.{or-next}
+use borrow.Author.Tests.{eq-eqb, ne-eqb}
+use Rattle.rules.specs.Tests.{_or_}
+use Rattle.rules.specs.Chain.{badOpenLists}
+use borrow.Author.Needs.{needs}
+use Rattle.openinput.proofs.bad_lists.Statement.{statement}
+use Rattle.openinput.proofs.bad_lists.Tie as tie
+
+bad-units-requires : tie.Need-bad-units-requires
+bad-units-requires c κs = search needs
+
+returns : tie.Need-returns
+unfolding badOpenLists _or_
+returns c = simp (sym (c .before .bad-units .ensures) ∙ c .if1 .taken)
+
+returns-2 : tie.Need-returns-2
+unfolding badOpenLists _or_
+returns-2 c = simp (sym (c .before .before .bad-units .ensures) ∙ c .before .if1 .left, ne-eqb _ _ (c .if2 .taken))
+
+returns-3 : tie.Need-returns-3
+unfolding badOpenLists
+returns-3 c =
+    sym
+    (or-next _ _
+    (or-next _ _ (sym (c .before .before .bad-units .ensures) ∙ c .before .if1 .left) ∙ ap not (eq-eqb _ _ (c .if2 .left))))
+
+pub bad-lists-spec : {M : Type 1} → statement M
+bad-lists-spec = tie.close (tie.spec bad-units-requires returns returns-2 returns-3)

@@ -1,0 +1,141 @@
+-- Laws of the lists (`rules`, Lists) for the passes over them: what one turn of a loop at i takes off what is left, and bounds of the sums.
+use mathlib.Core.Path.{_≡_, refl, sym, ap, ap₂, _∙_}
+use mathlib.Core.Bool.{Bool, true, false}
+use mathlib.Core.List.{List, [], _∷_, _++_, append-nil}
+use Prim.Native.Nat.{ℕ, zero, suc, _+_, _*_, _/_, _<_, _≤_, zero-le}
+use native.Mathlib.Nat.{le-of-suc-le-suc, not-suc-le-zero, zero-mul, mul-zero, mul-le-mul-left}
+use native.Mathlib.Numerals.{add-one}
+use native.Mathlib.Omega.{arith}
+use lib.ListN.{length, getD, take, drop, set, drop-of-length-le}
+use lib.Seq.{drop-cons, take-all}
+use borrow.Author.Tests.{not-false, eqb-true}
+use Rattle.rules.specs.Limits.{lowestRelative, highestRelative}
+use Rattle.rules.specs.Tests.{_or_}
+use Rattle.rules.specs.Lists.{sum, products, scaled, anyOf, anyPair}
+use Rattle.rules.specs.Chain.{badRelative}
+use Rattle.weights.proofs.Tests.{or-holds, or-next, or-false, within}
+
+-- a turn at i takes the first element of what is left
+pub drop-step : (l : List ℕ) (i : ℕ) → i < length l → drop i l ≡ getD l i 0 ∷ drop (i + 1) l
+drop-step l i h = rw (add-one, drop-cons l i 0)
+
+pub drop-end : (l : List ℕ) (i : ℕ) → length l ≤ i → drop i l ≡ []
+drop-end l i h = drop-of-length-le l h
+
+pub sum-step : (l : List ℕ) (i : ℕ) → i < length l → sum (drop i l) ≡ getD l i 0 + sum (drop (i + 1) l)
+unfolding sum
+sum-step l i h = ap sum (drop-step l i h)
+
+pub sum-end : (l : List ℕ) (i : ℕ) → length l ≤ i → sum (drop i l) ≡ 0
+unfolding sum
+sum-end l i h = ap sum (drop-end l i h)
+
+module _ (v p : List ℕ) (i : ℕ) where
+  pub products-step : i < length v → i < length p → sum (products (drop i v) (drop i p)) ≡ getD v i 0 * getD p i 0 + sum (products (drop (i + 1) v) (drop (i + 1) p))
+  unfolding sum products
+  products-step h k = ap₂ (λ (x y : List ℕ). sum (products x y)) (drop-step v i h) (drop-step p i k)
+
+  pub products-end : length v ≤ i → sum (products (drop i v) (drop i p)) ≡ 0
+  unfolding sum products
+  products-end h = ap (λ (x : List ℕ). sum (products x (drop i p))) (drop-end v i h)
+
+  anyPair-step : (test : ℕ → ℕ → Bool) → i < length v → i < length p → anyPair test (drop i v) (drop i p) ≡ (test (getD v i 0) (getD p i 0) or anyPair test (drop (i + 1) v) (drop (i + 1) p))
+  unfolding anyPair
+  anyPair-step test h k = ap₂ (anyPair test) (drop-step v i h) (drop-step p i k)
+
+-- A pass that asks a test of each pair: what is left decides the whole, `all`.
+module _ (test : ℕ → ℕ → Bool) (v p : List ℕ) (i : ℕ) (all : Bool) (left : anyPair test (drop i v) (drop i p) ≡ all) where
+  -- a pair for which the test holds decides
+  pub pair-found : i < length v → i < length p → test (getD v i 0) (getD p i 0) ≡ true → true ≡ all
+  pair-found h k e = sym (or-holds _ _ e) ∙ sym (anyPair-step v p i test h k) ∙ left
+
+  -- a pair for which it fails leaves the rest
+  pub pair-next : i < length v → i < length p → test (getD v i 0) (getD p i 0) ≡ false → anyPair test (drop (i + 1) v) (drop (i + 1) p) ≡ all
+  pair-next h k e = sym (or-next _ _ e) ∙ sym (anyPair-step v p i test h k) ∙ left
+
+  -- with nothing left it held for none
+  pub pair-none : length v ≤ i → false ≡ all
+  unfolding anyPair
+  pair-none h = sym (ap (λ (x : List ℕ). anyPair test x (drop i p)) (drop-end v i h)) ∙ left
+
+-- The same of one list.
+module _ (test : ℕ → Bool) (l : List ℕ) (i : ℕ) (all : Bool) (left : anyOf test (drop i l) ≡ all) where
+  anyOf-step : i < length l → (test (getD l i 0) or anyOf test (drop (i + 1) l)) ≡ all
+  unfolding anyOf
+  anyOf-step h = sym (ap (anyOf test) (drop-step l i h)) ∙ left
+
+  pub one-found : i < length l → test (getD l i 0) ≡ true → true ≡ all
+  one-found h e = sym (or-holds _ _ e) ∙ anyOf-step h
+
+  pub one-next : i < length l → test (getD l i 0) ≡ false → anyOf test (drop (i + 1) l) ≡ all
+  one-next h e = sym (or-next _ _ e) ∙ anyOf-step h
+
+  pub one-none : length l ≤ i → false ≡ all
+  unfolding anyOf
+  one-none h = sym (ap (anyOf test) (drop-end l i h)) ∙ left
+
+-- each product is within the sum of the products
+pub product-le : (v p : List ℕ) (i : ℕ) → getD v i 0 * getD p i 0 ≤ sum (products v p)
+unfolding sum products
+product-le [] p i = rw zero-mul zero-le
+product-le (x ∷ v) [] i = rw mul-zero zero-le
+product-le (x ∷ v) (y ∷ p) zero = omega arith
+product-le (x ∷ v) (y ∷ p) (suc i) = omega (arith, product-le v p i)
+
+-- ---- scaling a list where it lies
+-- the list after i turns: the first i places scaled, the others as they were
+abbrev pub scaledTo : ℕ → ℕ → List ℕ → List ℕ → List ℕ
+scaledTo scale i v p = scaled scale (take i v) (take i p) ++ drop i v
+
+pub scaledTo-none : (scale : ℕ) (v p : List ℕ) → scaledTo scale 0 v p ≡ v
+unfolding scaled
+scaledTo-none scale v p = refl
+
+-- place i is still as it was
+pub scaledTo-at : (scale i : ℕ) (v p : List ℕ) → length v ≡ length p → getD (scaledTo scale i v p) i 0 ≡ getD v i 0
+unfolding scaled
+scaledTo-at scale zero v p h = refl
+scaledTo-at scale (suc i) [] p h = refl
+scaledTo-at scale (suc i) (x ∷ v) [] h = absurd (omega arith)
+scaledTo-at scale (suc i) (x ∷ v) (y ∷ p) h = scaledTo-at scale i v p (omega arith)
+
+pub scaledTo-step : (scale i : ℕ) (v p : List ℕ) → i < length v → length v ≡ length p → set (scaledTo scale i v p) i (getD v i 0 * getD p i 0 / scale) ≡ scaledTo scale (suc i) v p
+unfolding scaled
+scaledTo-step scale i [] p h k = absurd (not-suc-le-zero h)
+scaledTo-step scale i (x ∷ v) [] h k = absurd (omega arith)
+scaledTo-step scale zero (x ∷ v) (y ∷ p) h k = refl
+scaledTo-step scale (suc i) (x ∷ v) (y ∷ p) h k = ap (λ (l : List ℕ). (x * y / scale) ∷ l) (scaledTo-step scale i v p (le-of-suc-le-suc h) (omega arith))
+
+-- with no place left all of it is scaled
+pub scaledTo-all : (scale i : ℕ) (v p : List ℕ) → length v ≡ length p → length v ≤ i → scaledTo scale i v p ≡ scaled scale v p
+scaledTo-all scale i v p h k =
+    let m : length p ≤ i = omega arith in
+    simp (take-all i v k, take-all i p m, drop-end v i k, append-nil)
+
+pub scaled-at : (scale i : ℕ) (v p : List ℕ) → i < length v → length v ≡ length p → getD (scaled scale v p) i 0 ≡ getD v i 0 * getD p i 0 / scale
+unfolding scaled
+scaled-at scale i [] p h k = absurd (not-suc-le-zero h)
+scaled-at scale i (x ∷ v) [] h k = absurd (omega arith)
+scaled-at scale zero (x ∷ v) (y ∷ p) h k = refl
+scaled-at scale (suc i) (x ∷ v) (y ∷ p) h k = scaled-at scale i v p (le-of-suc-le-suc h) (omega arith)
+
+pub length-scaled : (scale : ℕ) (v p : List ℕ) → length v ≡ length p → length (scaled scale v p) ≡ length v
+unfolding scaled
+length-scaled scale [] p h = refl
+length-scaled scale (x ∷ v) [] h = absurd (omega arith)
+length-scaled scale (x ∷ v) (y ∷ p) h = ap suc (length-scaled scale v p (omega arith))
+
+-- ---- bounds that relatives in range give
+relative-most : (mark p : ℕ) → badRelative mark p ≡ false → p ≤ highestRelative
+unfolding badRelative
+relative-most zero p e = omega (arith, eqb-true p 0 (not-false _ e))
+relative-most (suc mark) p e = within lowestRelative highestRelative p e .1
+
+pub products-bound : (v marks p : List ℕ) → anyPair badRelative marks p ≡ false → length p ≤ length marks → sum (products v p) ≤ highestRelative * sum v
+unfolding sum products anyPair
+products-bound [] marks p e h = zero-le
+products-bound (x ∷ v) marks [] e h = zero-le
+products-bound (x ∷ v) [] (y ∷ p) e h = absurd (omega arith)
+products-bound (x ∷ v) (m ∷ marks) (y ∷ p) e h =
+    let r = or-false (badRelative m y) (anyPair badRelative marks p) e in
+    omega (arith, mul-le-mul-left x (relative-most m y (r .0)), products-bound v marks p (r .1) (omega arith))
