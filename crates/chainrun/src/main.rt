@@ -2,7 +2,7 @@
 // until the end or the first refusal. What all turns print is the crate `run`, proofs/Whole.antt.
 use libc::STDIN_FILENO;
 use libc::STDOUT_FILENO;
-use run::TEXT_ROOM;
+use texts::TEXT_ROOM;
 ghost use mathlib.Core.Path.{_≡_};
 ghost use Prim.Native.Nat.{suc, _*_};
 ghost use lib.ListN.{length};

@@ -16,7 +16,8 @@ use Rattle.jobstate.specs.State.{jobOf}
 use Rattle.decimal.specs.Put.{laidAt}
 use Rattle.lines.specs.Laid.{panelRoom}
 use Rattle.run.specs.declared.Turned.{Turned}
-use Rattle.run.specs.Turn.{Turn, turnBy, turnOf, onto, Renders}
+use Rattle.texts.specs.Text.{onto}
+use Rattle.run.specs.Turn.{Turn, turnBy, turnOf, Renders}
 use Rattle.run.proofs.Whole.{by-turns, rest-shorter, shown, by-limit}
 use Rattle.output.specs.Printed.{fitted, Passed}
 use Rattle.output.proofs.Fitting.{room}

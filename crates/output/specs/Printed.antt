@@ -9,7 +9,7 @@ use Rattle.rules.specs.Tests.{refuse}
 use Rattle.rules.specs.Job.{output}
 use Rattle.refusals.specs.Number.{numberOf}
 use Rattle.decimal.specs.Put.{laidAt}
-use Rattle.run.specs.Turn.{onto}
+use Rattle.texts.specs.Text.{onto}
 use Rattle.output.specs.declared.Answer.{Answer}
 use Rattle.output.specs.declared.Answer.the-variants.{Laid, Refused}
 

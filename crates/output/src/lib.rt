@@ -1,7 +1,7 @@
 // Document 01, "Job stream": all that a stream prints, laid into a lent buffer. The first of two passes over the turns (`run`) only counts, since a
 // buffer that is too short is to stay as it was.
 use refusals::Refusal;
-use run::TEXT_ROOM;
+use texts::TEXT_ROOM;
 ghost use mathlib.Core.Path.{_≡_};
 ghost use Prim.Native.Nat.{_≤_};
 ghost use lib.ListN.{length, take};

@@ -1,2 +1,2 @@
-pub mod Texts
+pub mod Turns
 pub mod Whole

@@ -16,7 +16,8 @@ use Rattle.rules.specs.Job.{Job, Saying, emptyJob, step, textOf, goesOn, printe
 use Rattle.stream.proofs.Unread.{rest-shorter as shorter}
 use Rattle.jobstate.specs.State.{jobOf}
 use Rattle.run.specs.declared.Turned.{Turned}
-use Rattle.run.specs.Turn.{Turn, continues, turnBy, turnOf, Renders}
+use Rattle.texts.specs.Text.{continues}
+use Rattle.run.specs.Turn.{Turn, turnBy, turnOf, Renders}
 use Rattle.run.specs.Run.{Run, stops, goesOn as again}
 
 -- what is printed after a command, by whether the stream goes on

@@ -1,14 +1,15 @@
 -- Document 01, "Job stream": one turn of a stream, from the part that starts at the current command: what it prints, the job that it leaves, and
 -- whether the stream goes on. The turns of a stream, joined, are what `rules` says it prints (proofs/Whole.antt).
 use Prim.Native.Nat.{ℕ, _-_}
-use mathlib.Core.Bool.{Bool, true, false}
+use mathlib.Core.Bool.{Bool, false}
 use mathlib.Core.Path.{_≡_}
-use mathlib.Core.List.{List, [], _++_}
-use lib.ListN.{length, drop}
+use mathlib.Core.List.{List, []}
+use lib.ListN.{length}
 use Rattle.rules.specs.Stream.{Reading, reading}
 use Rattle.rules.specs.Lines.{refusalLine}
-use Rattle.rules.specs.Job.{Job, Saying, Step, step, textOf}
+use Rattle.rules.specs.Job.{Job, Step, step, textOf}
 use Rattle.jobstate.specs.State.{jobOf}
+use Rattle.texts.specs.Text.{continues, onto}
 use Rattle.run.specs.declared.Turned.{Turned}
 
 -- what a turn prints, the job after it, and whether there is a next turn
@@ -16,14 +17,6 @@ pub record Turn : Type 0 where
   pub text : List ℕ
   pub job : Job
   pub more : Bool
-
--- "`R number offset` …, after which it stops"
-abbrev pub continues : Saying → Bool
-continues (Saying.refused n) = false
-continues Saying.nothing = true
-continues (Saying.panelDrawn numbers weights) = true
-continues (Saying.quarterFigure f) = true
-continues (Saying.closeFigure f) = true
 
 -- the turn of a command, by its step
 abbrev pub turnAfter : Step → ℕ → Turn
@@ -37,10 +30,6 @@ turnBy (Reading.command c) offset j = turnAfter (step j c) offset
 -- the turn at the unread part s of a stream of n bytes; "offset (of the refused command's first byte)"
 unfoldable pub turnOf : ℕ → List ℕ → Job → Turn
 turnOf n s j = turnBy (reading s) (n - length s) j
-
--- a text at the front of a buffer, the places after it as they were
-abbrev pub onto : List ℕ → List ℕ → List ℕ
-onto text buffer = text ++ drop (length text) buffer
 
 -- what the code hands back, and the text buffer before and after, are those of a turn
 pub record Renders (t : Turn) (r : Turned) (before after : List ℕ) : Type 0 where

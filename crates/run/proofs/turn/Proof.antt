@@ -8,7 +8,8 @@ use Rattle.stream.specs.Value.{readingFrom}
 use Rattle.lines.specs.Laid.{lineRoom}
 use Rattle.jobstate.specs.State.{jobOf}
 use Rattle.run.specs.Turn.{turnAfter}
-use Rattle.run.proofs.Texts.{laid-all, turn-is, renders-as}
+use Rattle.texts.proofs.Texts.{laid-all}
+use Rattle.run.proofs.Turns.{turn-is, renders-as}
 use borrow.Author.Needs.{needs}
 use Rattle.run.proofs.turn.Statement.{statement}
 use Rattle.run.proofs.turn.Tie as tie

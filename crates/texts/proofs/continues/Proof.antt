@@ -1,8 +1,8 @@
 -- By what the step says: a refusal stops the stream.
 use borrow.Author.Needs.{needs}
-use Rattle.run.proofs.Texts.{continues-of}
-use Rattle.run.proofs.continues.Statement.{statement}
-use Rattle.run.proofs.continues.Tie as tie
+use Rattle.texts.proofs.Texts.{continues-of}
+use Rattle.texts.proofs.continues.Statement.{statement}
+use Rattle.texts.proofs.continues.Tie as tie
 
 enum-told : tie.Need-enum-told
 enum-told c = search needs

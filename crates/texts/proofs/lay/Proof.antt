@@ -8,11 +8,11 @@ use Rattle.rules.specs.Limits.{mostPanel}
 use Rattle.rules.specs.Lines.{panelLines, refusalLine}
 use Rattle.lines.specs.Laid.{lineRoom}
 use Rattle.jobstate.proofs.FirstPlaces.{lent-within, lent-length, lent}
-use Rattle.run.specs.Turn.{onto}
-use Rattle.run.proofs.Texts.{laid-all, text-of, panel-room}
+use Rattle.texts.specs.Text.{onto}
+use Rattle.texts.proofs.Texts.{laid-all, text-of, panel-room}
 use borrow.Author.Needs.{needs}
-use Rattle.run.proofs.lay.Statement.{statement}
-use Rattle.run.proofs.lay.Tie as tie
+use Rattle.texts.proofs.lay.Statement.{statement}
+use Rattle.texts.proofs.lay.Tie as tie
 
 -- the arrays of the panel
 places : (s : tie.Start) → (length (s .args .stepped .numbers) ≡ mostPanel) × (length (s .args .stepped .job .panel) ≡ mostPanel)

@@ -1,0 +1,47 @@
+// Document 01, "Job stream": the text of what a command says, and whether the stream goes on after it.
+use frame::MOST_PANEL;
+use jobstate::Saying;
+use jobstate::Stepped;
+use jobstate::within;
+ghost use mathlib.Core.Path.{_≡_};
+ghost use lib.ListN.{length};
+ghost use Rattle.rules.specs.Job.{textOf};
+ghost use Rattle.jobstate.specs.State.{sayingFrom};
+ghost use Rattle.texts.specs.Text.{continues, onto};
+
+// Bytes of the longest text of a command: a line for each unit of a panel.
+pub const TEXT_ROOM: usize = 4400;
+
+// Whether the stream goes on after what a command says.
+pub fn continues(stepped: Stepped) -> bool
+    ensures { λ r. ⌜ r ≡ continues (sayingFrom stepped) ⌝ }
+{
+    let says = stepped.says;
+    match says {
+        Saying::Refused(_) => false,
+        Saying::Nothing => true,
+        Saying::Panel => true,
+        Saying::Quarter(_) => true,
+        Saying::Close(_) => true,
+    }
+}
+
+// Lays the text of what a command says, and answers its bytes.
+pub fn lay(text: &mut [u8; TEXT_ROOM], stepped: Stepped, at: usize) -> usize
+    ensures { λ r. ⌜ (r ≡ length (textOf (sayingFrom stepped) at)) × (now (text .exit) ≡ onto (textOf (sayingFrom stepped) at) (now (text .entry))) ⌝ }
+{
+    let says = stepped.says;
+    match says {
+        Saying::Refused(why) => lines::refusal_line(text, why.number(), at),
+        Saying::Nothing => 0,
+        Saying::Panel => {
+            let drawn = stepped.job;
+            let size = within(drawn.size, MOST_PANEL);
+            let numbers = stepped.numbers;
+            let weights = drawn.panel;
+            lines::panel_lines(text, &numbers[..size], &weights[..size])
+        }
+        Saying::Quarter(f) => lines::quarter_line(text, f),
+        Saying::Close(f) => lines::close_line(text, f),
+    }
+}
