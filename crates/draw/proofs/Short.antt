@@ -21,8 +21,8 @@ use Rattle.selection.proofs.Orders.{by-left, by-right}
 use Rattle.selection.proofs.Listed.{listed-same}
 use Rattle.selection.proofs.Segment.{Segment, segment-firsts}
 use Rattle.selection.proofs.TakeAll.{group-size}
-use Rattle.takeall.specs.declared.Group.{Group}
-use Rattle.takeall.specs.Group.{rulesGroup}
+use Rattle.group.specs.declared.Group.{Group}
+use Rattle.group.specs.Group.{rulesGroup}
 use Rattle.keys.specs.Units.{numOf, denOf}
 use Rattle.shortlist.specs.declared.Bound.{Bound}
 use Rattle.shortlist.specs.Bound.{keyLess, near, partOf, passes, within, Reach, Bounds}

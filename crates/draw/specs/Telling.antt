@@ -3,7 +3,7 @@ use mathlib.Core.Path.{_≡_}
 use mathlib.Core.Bool.{true, false}
 use mathlib.Core.List.{List}
 use Prim.Native.Nat.{ℕ, _+_, _/_}
-use Rattle.takeall.specs.declared.Group.{Group}
+use Rattle.group.specs.declared.Group.{Group}
 use Rattle.shortlist.specs.Bound.{Reach, Bounds}
 use Rattle.draw.specs.declared.told.Told.{Told}
 use Rattle.ranking.specs.Sampling.{IsThreshold}

@@ -1,14 +1,14 @@
 // Who is sampled under a start (document 01, "Draw"), for a caller that asks it of a few units: by the bound of a short list where that is sure, and
 // else by the last sampled unit.
+use group::Group;
 use ranking::Key;
 use ranking::Threshold;
 use shortlist::Bound;
-use takeall::Group;
 ghost use mathlib.Core.Path.{_≡_};
 ghost use Prim.Native.Nat.{_<_};
 ghost use lib.ListN.{length};
 ghost use Rattle.rules.specs.Draw.{sampledBy};
-ghost use Rattle.takeall.specs.Group.{rulesGroup};
+ghost use Rattle.group.specs.Group.{rulesGroup};
 ghost use Rattle.ranking.specs.Sampling.{unnumbered, Ready};
 ghost use Rattle.ranking.specs.Gaps.{Gaps};
 ghost use Rattle.draw.specs.Telling.{Tells};

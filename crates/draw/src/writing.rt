@@ -1,7 +1,7 @@
 // The panel written out (document 01, "Draw"): unit numbers in rising order with their W, from the arrays of the take-all units and of the sampled ones.
 // Each step takes the next higher unit of the two, so that the frame itself is not gone through again.
+use group::Group;
 use shortlist::Found;
-use takeall::Group;
 ghost use mathlib.Core.Path.{_≡_};
 ghost use mathlib.Core.List.{_++_};
 ghost use Prim.Native.Nat.{_+_, _<_, _≤_};
@@ -10,7 +10,7 @@ ghost use Rattle.rules.specs.Selection.{listed, every};
 ghost use Rattle.rules.specs.TakeAll.{larger, baseWeight};
 ghost use Rattle.rules.specs.Draw.{drawnBy};
 ghost use Rattle.selection.specs.Ranked.{Ranked};
-ghost use Rattle.takeall.specs.Group.{rulesGroup};
+ghost use Rattle.group.specs.Group.{rulesGroup};
 ghost use Rattle.ranking.specs.Sampling.{unnumbered, outside, keyOrder, Ready};
 ghost use Rattle.shortlist.specs.Bound.{passing, Passing};
 ghost use Rattle.draw.specs.Panel.{Next, Arrays};
@@ -42,7 +42,7 @@ fn weight_of(turnovers: &[u64], randoms: &[u32], g: Group, start: u32, i: usize)
     if g.n == 0 {
         return turnovers[i];
     }
-    if takeall::takes_all(turnovers, g, i) {
+    if group::takes_all(turnovers, g, i) {
         return (g.n as u64) * turnovers[i];
     }
     g.rest

@@ -8,8 +8,8 @@ use lib.ListN.{length, getD}
 use Rattle.rules.specs.TakeAll.{turnover, largest, takeAllSize, takeAllGroup}
 use Rattle.rules.specs.Draw.{shifted, shiftedOf, keyNumerator, keyDenominator}
 use Rattle.selection.proofs.TakeAll.{outside-below}
-use Rattle.takeall.specs.declared.Group.{Group}
-use Rattle.takeall.specs.Group.{IsGroup, rulesGroup}
+use Rattle.group.specs.declared.Group.{Group}
+use Rattle.group.specs.Group.{IsGroup, rulesGroup}
 use Rattle.keys.specs.Units.{Units, numOf, denOf}
 use Rattle.ranking.specs.Sampling.{unnumbered, Ready}
 use Rattle.ranking.specs.Gaps.{gapOf, Gaps}

@@ -5,7 +5,7 @@ use mathlib.Core.List.{List}
 use Prim.Native.Nat.{ℕ, _-_, _*_, _≤_, _<_}
 use lib.ListN.{length, getD}
 use Rattle.rules.specs.TakeAll.{turnover, largest}
-use Rattle.takeall.specs.declared.Group.{Group}
+use Rattle.group.specs.declared.Group.{Group}
 
 -- "X − n × turnover" of "a unit outside take-all"; a take-all unit has no key, and 0 here
 unfoldable pub gapOf : List ℕ → Group → ℕ → ℕ

@@ -1,9 +1,10 @@
 // The gaps of a frame's units (document 01, "Draw"): X − n × turnover, the part of a key that no start changes, so that a rotation
 // computes it once. A gap of 0 is that of a take-all unit: a key never asks for take-all again.
-use takeall::Group;
+use group::Group;
 ghost use Prim.Native.Nat.{_+_, _≤_};
 ghost use lib.ListN.{length};
-ghost use Rattle.takeall.specs.Group.{Sized, IsGroup};
+ghost use Rattle.largest.specs.Sized.{Sized};
+ghost use Rattle.group.specs.Group.{IsGroup};
 ghost use Rattle.ranking.specs.Gaps.{Gaps};
 
 // Writes the gap of each unit.
@@ -13,7 +14,7 @@ pub fn fill(turnovers: &[u64], g: Group, gaps: &mut [u64])
 {
     let mut i: usize = 0;
     while i < turnovers.len() {
-        if takeall::takes_all(turnovers, g, i) {
+        if group::takes_all(turnovers, g, i) {
             gaps[i] = 0;
         } else {
             gaps[i] = keys::gap(turnovers[i], g.rest, g.n as u64);

@@ -3,7 +3,7 @@ use mathlib.Core.List.{List}
 use Prim.Native.Nat.{ℕ, _<_, _≤_}
 use lib.ListN.{length, getD}
 use Rattle.rules.specs.Limits.{mostPanel, randomRange}
-use Rattle.takeall.specs.declared.Group.{Group}
+use Rattle.group.specs.declared.Group.{Group}
 use Rattle.members.specs.declared.Places.{Places}
 use Rattle.ranking.specs.Sampling.{Ready}
 use Rattle.ranking.specs.Gaps.{Gaps}

@@ -7,19 +7,19 @@ use draw::told;
 use frame::MOST_FRAME;
 use frame::MOST_PANEL;
 use frame::RANDOM_RANGE;
+use group::Group;
 use judge::FRACTION_SCALE;
 use members::Places;
 use ranking::gaps;
 use refusals::Refusal;
 use refusals::Verdict;
-use takeall::Group;
 ghost use mathlib.Core.Path.{_≡_};
 ghost use Prim.Native.Nat.{_<_, _≤_};
 ghost use lib.ListN.{length, getD};
 ghost use Rattle.rules.specs.Limits.{mostPanel, fractionScale, randomRange, steps};
 ghost use Rattle.rules.specs.TakeAll.{frame};
 ghost use Rattle.rules.specs.Rotation.{required, startAt, rotationAnswer, rotationLeavers, Holds};
-ghost use Rattle.takeall.specs.Group.{rulesGroup};
+ghost use Rattle.group.specs.Group.{rulesGroup};
 ghost use Rattle.members.specs.Places.{Holding};
 ghost use Rattle.rotation.specs.Leaving.{memberLeaves, firstStep, inPlaceOrder};
 ghost use Rattle.rotation.specs.Answer.{answerOf, Written};
@@ -140,7 +140,7 @@ fn turn(
     ensures { λ r. ⌜ answerOf r ≡ rotationAnswer (frame (now (numbers .entry)) (now (turnovers .entry)) (now (randoms .entry))) z old (now (panel .entry)) fraction (now (leavers .entry)) ⌝ }
     ensures { λ _. ⌜ Written (rotationLeavers (frame (now (numbers .entry)) (now (turnovers .entry)) (now (randoms .entry))) z old (now (panel .entry)) fraction (now (leavers .entry))) (now (leavers .entry)) (now (leavers .exit)) ⌝ }
 {
-    let g = takeall::find_group(turnovers, z);
+    let g = group::find_group(turnovers, z);
     let mut gaps = [0u64; MOST_FRAME];
     gaps::fill(turnovers, g, &mut gaps);
     let members = members::members(numbers, turnovers, panel, g);

@@ -7,8 +7,9 @@ use lib.ListN.{length, getD, drop}
 use Rattle.rules.specs.Limits.{mostPanel}
 use Rattle.rules.specs.TakeAll.{Frame, frame, baseWeight}
 use Rattle.frame.proofs.Accepted.{Accepted, accepted}
-use Rattle.takeall.specs.declared.Group.{Group}
-use Rattle.takeall.specs.Group.{Sized, IsGroup, rulesGroup}
+use Rattle.group.specs.declared.Group.{Group}
+use Rattle.largest.specs.Sized.{Sized}
+use Rattle.group.specs.Group.{IsGroup, rulesGroup}
 use Rattle.shortlist.specs.Bound.{Passing}
 use Rattle.shortlist.proofs.Searched.{found-listed, found-passing}
 use Rattle.ranking.specs.Sampling.{Ready}

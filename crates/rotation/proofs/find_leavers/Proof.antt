@@ -6,7 +6,7 @@ use Prim.Native.Nat.{ℕ, _+_, _-_, _≤_, _<_}
 use native.Mathlib.Omega.{arith}
 use lib.ListN.{length, getD}
 use borrow.Author.Needs.{needs}
-use Rattle.takeall.specs.Group.{rulesGroup}
+use Rattle.group.specs.Group.{rulesGroup}
 use Rattle.ranking.specs.Sampling.{unnumbered}
 use Rattle.members.specs.Places.{Holding}
 use Rattle.members.proofs.Held.{held, hold-none, hold-not, hold-more, hold-same}

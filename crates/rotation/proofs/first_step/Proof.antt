@@ -9,7 +9,7 @@ use Rattle.rules.specs.Limits.{steps, randomRange}
 use Rattle.rules.specs.Selection.{count, leastFrom}
 use Rattle.rules.specs.Rotation.{startAt}
 use Rattle.selection.proofs.Least.{least-hit, least-miss, least-end}
-use Rattle.takeall.specs.Group.{rulesGroup}
+use Rattle.group.specs.Group.{rulesGroup}
 use Rattle.rotation.specs.Leaving.{memberLeaves, leaving, enoughLeave, firstStep}
 use Rattle.ranking.specs.Sampling.{unnumbered}
 use Rattle.rotation.proofs.Members.{start-low}

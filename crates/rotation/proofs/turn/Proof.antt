@@ -10,7 +10,7 @@ use Rattle.rules.specs.TakeAll.{frame}
 use Rattle.frame.proofs.Accepted.{Accepted}
 use Rattle.rotation.proofs.Refusals.{OldPassed}
 use Rattle.rules.specs.Rotation.{required}
-use Rattle.takeall.specs.Group.{rulesGroup}
+use Rattle.group.specs.Group.{rulesGroup}
 use Rattle.members.proofs.Held.{hold-most}
 use Rattle.rotation.specs.Leaving.{firstStep}
 use Rattle.ranking.specs.Sampling.{unnumbered}

@@ -11,7 +11,7 @@ use borrow.Author.Needs.{needs}
 use Rattle.rules.specs.Limits.{mostTurnover}
 use Rattle.rules.specs.TakeAll.{turnover}
 use Rattle.frame.proofs.Accepted.{place-within}
-use Rattle.takeall.specs.declared.Group.{Group}
+use Rattle.group.specs.declared.Group.{Group}
 use Rattle.ranking.specs.Gaps.{gapOf}
 use Rattle.ranking.proofs.ByGaps.{gap-inside, gap-outside, gap-some}
 use Rattle.ranking.proofs.gaps.fill.Statement.{statement}
