@@ -18,7 +18,8 @@ use Rattle.selection.proofs.TakeAll.{size-le, rest-le, outside-count}
 use Rattle.group.specs.declared.Group.{Group}
 use Rattle.largest.specs.Sized.{Sized}
 use Rattle.group.specs.Group.{IsGroup, rulesGroup}
-use Rattle.ranking.specs.Sampling.{outside, keyOrder, Ready}
+use Rattle.terms.specs.Terms.{outside, Ready}
+use Rattle.ranking.specs.Sampling.{keyOrder}
 use Rattle.draw.specs.Panel.{Arrays}
 use Rattle.draw.proofs.Panel.{drawn, drawn-any}
 

@@ -19,7 +19,8 @@ use Rattle.selection.proofs.TakeAll.{larger-order}
 use Rattle.selection.proofs.Panel.{panel-parts}
 use Rattle.group.specs.declared.Group.{Group}
 use Rattle.group.specs.Group.{rulesGroup}
-use Rattle.ranking.specs.Sampling.{unnumbered, outside, keyOrder, Ready}
+use Rattle.terms.specs.Terms.{unnumbered, outside, Ready}
+use Rattle.ranking.specs.Sampling.{keyOrder}
 use Rattle.draw.specs.Panel.{Next, Arrays}
 use Rattle.ranking.proofs.Sampling.{key-is-order, sampled-is}
 

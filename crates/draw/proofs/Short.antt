@@ -28,10 +28,12 @@ use Rattle.shortlist.specs.declared.Bound.{Bound}
 use Rattle.shortlist.specs.Bound.{keyLess, near, partOf, passes, within, Reach, Bounds}
 use Rattle.shortlist.proofs.Bounded.{bound-parts}
 use Rattle.shortlist.proofs.Searched.{unit-positive}
-use Rattle.ranking.specs.Sampling.{unnumbered, outside, keyOrder, Ready}
-use Rattle.ranking.specs.Gaps.{gapOf, Gaps}
-use Rattle.ranking.proofs.Sampling.{outside-is, outside-not, key-is-order, sampled-is, sampled-none, sampled-inside}
-use Rattle.ranking.proofs.ByGaps.{units-of, num-is, den-is, gap-inside, gap-outside, zero-inside}
+use Rattle.terms.specs.Terms.{unnumbered, outside, Ready}
+use Rattle.ranking.specs.Sampling.{keyOrder}
+use Rattle.terms.specs.Gaps.{gapOf, Gaps}
+use Rattle.terms.proofs.Outside.{outside-is, outside-not}
+use Rattle.ranking.proofs.Sampling.{key-is-order, sampled-is, sampled-none, sampled-inside}
+use Rattle.terms.proofs.ByGaps.{units-of, num-is, den-is, gap-inside, gap-outside, zero-inside}
 use Rattle.draw.proofs.Panel.{drawn, drawn-is}
 
 -- ---- a gap of 0 is that of a unit that is not sampled, and any other that of a unit outside take-all

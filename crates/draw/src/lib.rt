@@ -16,8 +16,8 @@ ghost use Rattle.rules.specs.Draw.{drawnBy, frameRefusal, drawRefusal, drawAnsw
 ghost use Rattle.refusals.specs.Number.{verdictOf};
 ghost use Rattle.largest.specs.Sized.{Sized};
 ghost use Rattle.group.specs.Group.{IsGroup, rulesGroup};
-ghost use Rattle.ranking.specs.Sampling.{unnumbered, Ready};
-ghost use Rattle.ranking.specs.Gaps.{Gaps};
+ghost use Rattle.terms.specs.Terms.{unnumbered, Ready};
+ghost use Rattle.terms.specs.Gaps.{Gaps};
 ghost use Rattle.draw.specs.Answer.{answerOf};
 
 // Units of a small frame: as many as a job holds.
@@ -105,7 +105,7 @@ fn draw_with(
     ensures { λ _. ⌜ now (weights .exit) ≡ drawWeights (frame (now (numbers .entry)) (now (turnovers .entry)) (now (randoms .entry))) z start (now (panel .entry)) (now (weights .entry)) ⌝ }
 {
     let g = group::find_group(turnovers, z);
-    ranking::gaps::fill(turnovers, g, gaps);
+    terms::gaps::fill(turnovers, g, gaps);
     let reach = shortlist::reach_of(g.n as u64);
     let found = shortlist::find(turnovers, randoms, gaps, start, reach, z);
     if found.sure {

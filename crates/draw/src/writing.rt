@@ -11,7 +11,8 @@ ghost use Rattle.rules.specs.TakeAll.{larger, baseWeight};
 ghost use Rattle.rules.specs.Draw.{drawnBy};
 ghost use Rattle.selection.specs.Ranked.{Ranked};
 ghost use Rattle.group.specs.Group.{rulesGroup};
-ghost use Rattle.ranking.specs.Sampling.{unnumbered, outside, keyOrder, Ready};
+ghost use Rattle.terms.specs.Terms.{unnumbered, outside, Ready};
+ghost use Rattle.ranking.specs.Sampling.{keyOrder};
 ghost use Rattle.shortlist.specs.Bound.{passing, Passing};
 ghost use Rattle.draw.specs.Panel.{Next, Arrays};
 

@@ -5,8 +5,8 @@ use lib.ListN.{length, getD}
 use Rattle.rules.specs.Limits.{mostPanel, randomRange}
 use Rattle.group.specs.declared.Group.{Group}
 use Rattle.members.specs.declared.Places.{Places}
-use Rattle.ranking.specs.Sampling.{Ready}
-use Rattle.ranking.specs.Gaps.{Gaps}
+use Rattle.terms.specs.Terms.{Ready}
+use Rattle.terms.specs.Gaps.{Gaps}
 
 -- units that are held as places of a frame of n units
 pub record Within (n : ℕ) (units : Places) : Type 0 where

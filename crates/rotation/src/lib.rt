@@ -10,9 +10,9 @@ use frame::RANDOM_RANGE;
 use group::Group;
 use judge::FRACTION_SCALE;
 use members::Places;
-use ranking::gaps;
 use refusals::Refusal;
 use refusals::Verdict;
+use terms::gaps;
 ghost use mathlib.Core.Path.{_≡_};
 ghost use Prim.Native.Nat.{_<_, _≤_};
 ghost use lib.ListN.{length, getD};
@@ -24,7 +24,7 @@ ghost use Rattle.members.specs.Places.{Holding};
 ghost use Rattle.rotation.specs.Leaving.{memberLeaves, firstStep, inPlaceOrder};
 ghost use Rattle.rotation.specs.Answer.{answerOf, Written};
 ghost use Rattle.rotation.specs.Judge.{earlyRefusal};
-ghost use Rattle.ranking.specs.Sampling.{unnumbered};
+ghost use Rattle.terms.specs.Terms.{unnumbered};
 ghost use Rattle.rotation.specs.Search.{Within, Searched};
 
 // Steps that are tried, 0 to 999.

@@ -12,10 +12,10 @@ use Rattle.largest.specs.Sized.{Sized}
 use Rattle.group.specs.Group.{IsGroup, rulesGroup}
 use Rattle.shortlist.specs.Bound.{Passing}
 use Rattle.shortlist.proofs.Searched.{found-listed, found-passing}
-use Rattle.ranking.specs.Sampling.{Ready}
+use Rattle.terms.specs.Terms.{Ready}
 use Rattle.draw.proofs.Refusals.{frame-accepted, room}
 use Rattle.draw.proofs.Accepted.{frame-sized, own-size, frame-ready, panel-size, numbers-accepted, weights-accepted}
-use Rattle.ranking.proofs.ByGaps.{units-of}
+use Rattle.terms.proofs.ByGaps.{units-of}
 use Rattle.draw.proofs.Short.{reach-at, bounds-at, within-listed, drawn-many}
 use borrow.Author.Needs.{needs}
 use Rattle.draw.proofs.draw_with.Statement.{statement}

@@ -7,7 +7,7 @@ use native.Mathlib.Omega.{arith}
 use lib.ListN.{length, getD}
 use borrow.Author.Needs.{needs}
 use Rattle.group.specs.Group.{rulesGroup}
-use Rattle.ranking.specs.Sampling.{unnumbered}
+use Rattle.terms.specs.Terms.{unnumbered}
 use Rattle.members.specs.Places.{Holding}
 use Rattle.members.proofs.Held.{held, hold-none, hold-not, hold-more, hold-same}
 use Rattle.rotation.specs.Leaving.{memberLeaves}

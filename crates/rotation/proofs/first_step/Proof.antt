@@ -11,7 +11,7 @@ use Rattle.rules.specs.Rotation.{startAt}
 use Rattle.selection.proofs.Least.{least-hit, least-miss, least-end}
 use Rattle.group.specs.Group.{rulesGroup}
 use Rattle.rotation.specs.Leaving.{memberLeaves, leaving, enoughLeave, firstStep}
-use Rattle.ranking.specs.Sampling.{unnumbered}
+use Rattle.terms.specs.Terms.{unnumbered}
 use Rattle.rotation.proofs.Members.{start-low}
 use Rattle.rotation.proofs.first_step.Statement.{statement}
 use Rattle.rotation.proofs.first_step.Tie as tie

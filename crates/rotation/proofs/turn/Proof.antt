@@ -13,7 +13,7 @@ use Rattle.rules.specs.Rotation.{required}
 use Rattle.group.specs.Group.{rulesGroup}
 use Rattle.members.proofs.Held.{hold-most}
 use Rattle.rotation.specs.Leaving.{firstStep}
-use Rattle.ranking.specs.Sampling.{unnumbered}
+use Rattle.terms.specs.Terms.{unnumbered}
 use Rattle.draw.proofs.Accepted.{frame-sized, own-size}
 use Rattle.rotation.proofs.Members.{start-low}
 use Rattle.rotation.proofs.Ready.{searched}

@@ -2,7 +2,7 @@
 use native.Mathlib.Omega.{arith}
 use mathlib.Core.Path.{_≡_, sym, _∙_}
 use Rattle.shortlist.proofs.Terms.{not-true, not-false}
-use Rattle.ranking.proofs.ByGaps.{units-of}
+use Rattle.terms.proofs.ByGaps.{units-of}
 use Rattle.draw.proofs.Short.{gap-none, gap-some-outside, within-sampled}
 use borrow.Author.Needs.{needs}
 use Rattle.draw.proofs.told.is_sampled.Statement.{statement}

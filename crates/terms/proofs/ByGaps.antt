@@ -11,8 +11,8 @@ use Rattle.selection.proofs.TakeAll.{outside-below}
 use Rattle.group.specs.declared.Group.{Group}
 use Rattle.group.specs.Group.{IsGroup, rulesGroup}
 use Rattle.keys.specs.Units.{Units, numOf, denOf}
-use Rattle.ranking.specs.Sampling.{unnumbered, Ready}
-use Rattle.ranking.specs.Gaps.{gapOf, Gaps}
+use Rattle.terms.specs.Terms.{unnumbered, Ready}
+use Rattle.terms.specs.Gaps.{gapOf, Gaps}
 
 -- ---- the gap of one unit
 pub gap-inside : (ts : List ℕ) (g : Group) (i : ℕ) → largest ts (g .q) i ≡ true → gapOf ts g i ≡ 0

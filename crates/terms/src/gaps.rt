@@ -5,7 +5,7 @@ ghost use Prim.Native.Nat.{_+_, _≤_};
 ghost use lib.ListN.{length};
 ghost use Rattle.largest.specs.Sized.{Sized};
 ghost use Rattle.group.specs.Group.{IsGroup};
-ghost use Rattle.ranking.specs.Gaps.{Gaps};
+ghost use Rattle.terms.specs.Gaps.{Gaps};
 
 // Writes the gap of each unit.
 pub fn fill(turnovers: &[u64], g: Group, gaps: &mut [u64])

@@ -12,10 +12,10 @@ use Rattle.rules.specs.Limits.{mostTurnover}
 use Rattle.rules.specs.TakeAll.{turnover}
 use Rattle.frame.proofs.Accepted.{place-within}
 use Rattle.group.specs.declared.Group.{Group}
-use Rattle.ranking.specs.Gaps.{gapOf}
-use Rattle.ranking.proofs.ByGaps.{gap-inside, gap-outside, gap-some}
-use Rattle.ranking.proofs.gaps.fill.Statement.{statement}
-use Rattle.ranking.proofs.gaps.fill.Tie as tie
+use Rattle.terms.specs.Gaps.{gapOf}
+use Rattle.terms.proofs.ByGaps.{gap-inside, gap-outside, gap-some}
+use Rattle.terms.proofs.gaps.fill.Statement.{statement}
+use Rattle.terms.proofs.gaps.fill.Tie as tie
 
 abbrev Inv-loop : tie.InvT-loop
 Inv-loop turnovers g gaps₀ i₀ gaps i = (i ≤ length turnovers) × (length gaps ≡ length gaps₀) × ((k : ℕ) → k < i → getD gaps k 0 ≡ gapOf turnovers g k)
