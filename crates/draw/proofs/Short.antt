@@ -24,8 +24,9 @@ use Rattle.selection.proofs.TakeAll.{group-size}
 use Rattle.group.specs.declared.Group.{Group}
 use Rattle.group.specs.Group.{rulesGroup}
 use Rattle.keys.specs.Units.{numOf, denOf}
-use Rattle.shortlist.specs.declared.Bound.{Bound}
-use Rattle.shortlist.specs.Bound.{keyLess, near, partOf, passes, within, Reach, Bounds}
+use Rattle.bounds.specs.declared.Bound.{Bound}
+use Rattle.bounds.specs.Bound.{keyLess, near, partOf, passes, within, Reach}
+use Rattle.shortlist.specs.Found.{Bounds}
 use Rattle.shortlist.proofs.Bounded.{bound-parts}
 use Rattle.shortlist.proofs.Searched.{unit-positive}
 use Rattle.terms.specs.Terms.{unnumbered, outside, Ready}

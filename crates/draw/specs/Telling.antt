@@ -4,7 +4,8 @@ use mathlib.Core.Bool.{true, false}
 use mathlib.Core.List.{List}
 use Prim.Native.Nat.{ℕ, _+_, _/_}
 use Rattle.group.specs.declared.Group.{Group}
-use Rattle.shortlist.specs.Bound.{Reach, Bounds}
+use Rattle.bounds.specs.Bound.{Reach}
+use Rattle.shortlist.specs.Found.{Bounds}
 use Rattle.draw.specs.declared.told.Told.{Told}
 use Rattle.ranking.specs.Sampling.{IsThreshold}
 

@@ -106,7 +106,7 @@ fn draw_with(
 {
     let g = group::find_group(turnovers, z);
     terms::gaps::fill(turnovers, g, gaps);
-    let reach = shortlist::reach_of(g.n as u64);
+    let reach = bounds::reach_of(g.n as u64);
     let found = shortlist::find(turnovers, randoms, gaps, start, reach, z);
     if found.sure {
         writing::write_found(numbers, turnovers, randoms, g, start, found, panel, weights);

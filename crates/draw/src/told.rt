@@ -1,8 +1,8 @@
 // Who is sampled under a start (document 01, "Draw"), for a caller that asks it of a few units: by the bound of a short list where that is sure, and
 // else by the last sampled unit.
+use bounds::Bound;
 use group::Group;
 use ranking::Threshold;
-use shortlist::Bound;
 use terms::Key;
 ghost use mathlib.Core.Path.{_≡_};
 ghost use Prim.Native.Nat.{_<_};
@@ -25,7 +25,7 @@ pub fn tell(turnovers: &[u64], randoms: &[u32], gaps: &[u64], g: Group, start: u
     requires { ⌜ Ready (now turnovers) (now randoms) g start × Gaps (now turnovers) g (now gaps) ⌝ }
     ensures { λ s. ⌜ Tells (now (turnovers .entry)) (now (randoms .entry)) (now (gaps .entry)) g start s ⌝ }
 {
-    let reach = shortlist::reach_of(g.n as u64);
+    let reach = bounds::reach_of(g.n as u64);
     let found = shortlist::find(turnovers, randoms, gaps, start, reach, g.q + g.n);
     let bound = found.bound;
     if found.sure {
@@ -73,5 +73,5 @@ pub fn is_sampled(
         return false;
     }
     let bound = s.bound;
-    shortlist::is_within(turnovers, randoms, gaps, start, bound, i)
+    bounds::is_within(turnovers, randoms, gaps, start, bound, i)
 }

@@ -13,7 +13,7 @@ ghost use Rattle.selection.specs.Ranked.{Ranked};
 ghost use Rattle.group.specs.Group.{rulesGroup};
 ghost use Rattle.terms.specs.Terms.{unnumbered, outside, Ready};
 ghost use Rattle.ranking.specs.Sampling.{keyOrder};
-ghost use Rattle.shortlist.specs.Bound.{passing, Passing};
+ghost use Rattle.shortlist.specs.Found.{passing, Passing};
 ghost use Rattle.draw.specs.Panel.{Next, Arrays};
 
 // The smallest of the first len units that is `from` or higher, or `end` where none such is below it.
@@ -103,7 +103,7 @@ pub fn write_found(
     let mut j: usize = 0;
     while j < many {
         let i = units[j];
-        if shortlist::is_passed(bound, parts[j], i) {
+        if bounds::is_passed(bound, parts[j], i) {
             panel[k] = numbers[i];
             weights[k] = weight_of(turnovers, randoms, g, start, i);
             k += 1;

@@ -10,7 +10,7 @@ use Rattle.frame.proofs.Accepted.{Accepted, accepted}
 use Rattle.group.specs.declared.Group.{Group}
 use Rattle.largest.specs.Sized.{Sized}
 use Rattle.group.specs.Group.{IsGroup, rulesGroup}
-use Rattle.shortlist.specs.Bound.{Passing}
+use Rattle.shortlist.specs.Found.{Passing}
 use Rattle.shortlist.proofs.Searched.{found-listed, found-passing}
 use Rattle.terms.specs.Terms.{Ready}
 use Rattle.draw.proofs.Refusals.{frame-accepted, room}

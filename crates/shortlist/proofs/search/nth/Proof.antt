@@ -1,7 +1,7 @@
 -- The two ends come together; nothing is promised of where.
 use native.Mathlib.Omega.{arith}
 use Prim.Native.Nat.{ℕ, _-_, _≤_}
-use Rattle.shortlist.specs.Bound.{mostWord}
+use Rattle.bounds.specs.Bound.{mostWord}
 use borrow.Author.Needs.{needs}
 use Rattle.shortlist.proofs.search.nth.Statement.{statement}
 use Rattle.shortlist.proofs.search.nth.Tie as tie

@@ -6,11 +6,11 @@ use mathlib.Core.Bool.{Bool, true, false}
 use lib.Dec.{ltb, leb, eqb}
 use borrow.Author.Tests.{lt-ltb, le-ltb, ne-eqb, eq-eqb}
 use Rattle.rules.specs.Tests.{_or_, _and_}
-use Rattle.shortlist.specs.declared.Bound.{Bound}
-use Rattle.shortlist.specs.Bound.{passes}
+use Rattle.bounds.specs.declared.Bound.{Bound}
+use Rattle.bounds.specs.Bound.{passes}
 use borrow.Author.Needs.{needs}
-use Rattle.shortlist.proofs.is_passed.Statement.{statement}
-use Rattle.shortlist.proofs.is_passed.Tie as tie
+use Rattle.bounds.proofs.is_passed.Statement.{statement}
+use Rattle.bounds.proofs.is_passed.Tie as tie
 
 -- a lower part, a higher one, and the bound's own
 less : (b : Bound) (part i : ℕ) → part < b .part → passes b part i ≡ true

@@ -7,8 +7,8 @@ use lib.Dec.{leb}
 use borrow.Author.Tests.{le-leb}
 use Rattle.rules.specs.Limits.{randomRange, mostTurnover}
 use borrow.Author.Needs.{needs}
-use Rattle.shortlist.proofs.is_near.Statement.{statement}
-use Rattle.shortlist.proofs.is_near.Tie as tie
+use Rattle.bounds.proofs.is_near.Statement.{statement}
+use Rattle.bounds.proofs.is_near.Tie as tie
 
 zero-near : (a b : ℕ) → a ≡ 0 → true ≡ leb a b
 zero-near a b e = sym (le-leb a b (omega (arith, e)))

@@ -2,10 +2,10 @@
 use native.Mathlib.Omega.{arith}
 use Prim.Native.Nat.{ℕ}
 use mathlib.Core.Path.{_≡_, sym, _∙_}
-use Rattle.shortlist.proofs.Terms.{not-true, key-less}
+use Rattle.bounds.proofs.Terms.{not-true, key-less}
 use borrow.Author.Needs.{needs}
-use Rattle.shortlist.proofs.is_apart.Statement.{statement}
-use Rattle.shortlist.proofs.is_apart.Tie as tie
+use Rattle.bounds.proofs.is_apart.Statement.{statement}
+use Rattle.bounds.proofs.is_apart.Tie as tie
 
 unit-key-requires : tie.Need-unit-key-requires
 unit-key-requires c κs = search needs

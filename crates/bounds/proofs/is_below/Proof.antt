@@ -5,8 +5,8 @@ use mathlib.Core.Path.{_≡_, sym, ap₂, _∙_}
 use Rattle.rules.specs.Draw.{fractionBelow}
 use Rattle.fraction.proofs.Order.{irreflexive}
 use borrow.Author.Needs.{needs}
-use Rattle.shortlist.proofs.is_below.Statement.{statement}
-use Rattle.shortlist.proofs.is_below.Tie as tie
+use Rattle.bounds.proofs.is_below.Statement.{statement}
+use Rattle.bounds.proofs.is_below.Tie as tie
 
 -- of two fractions of the same terms neither is below the other
 same-terms : (a b c d : ℕ) → a ≡ c → b ≡ d → fractionBelow a b c d ≡ false

@@ -11,13 +11,13 @@ use lib.ListN.{length, getD}
 use Rattle.rules.specs.Selection.{count}
 use borrow.Author.Tests.{eqb-true}
 use Rattle.selection.proofs.Logic.{not-both}
-use Rattle.shortlist.proofs.Terms.{not-false}
+use Rattle.bounds.proofs.Terms.{not-false}
 use Rattle.selection.proofs.Sums.{count-zero, count-yes, count-not}
-use Rattle.shortlist.specs.declared.Bound.{Bound}
-use Rattle.shortlist.specs.Bound.{passes, Apart, Checked}
+use Rattle.bounds.specs.declared.Bound.{Bound}
+use Rattle.bounds.specs.Bound.{passes, Apart, Checked}
 use borrow.Author.Needs.{needs}
-use Rattle.shortlist.proofs.is_checked.Statement.{statement}
-use Rattle.shortlist.proofs.is_checked.Tie as tie
+use Rattle.bounds.proofs.is_checked.Statement.{statement}
+use Rattle.bounds.proofs.is_checked.Tie as tie
 
 record Sides (ts rs gs : List ℕ) (start : ℕ) (units parts : List ℕ) (b : Bound) (j : ℕ) : Type 0 where
   at : (k : ℕ) → k < j → getD parts k 0 ≡ b .part → Apart ts rs gs start b (getD units k 0)

@@ -4,11 +4,11 @@ use Prim.Native.Nat.{ℕ, _*_, _/_}
 use mathlib.Core.Bool.{Bool, true, false, not}
 use mathlib.Core.Path.{_≡_, refl, sym, ap, _∙_}
 use Rattle.selection.proofs.Logic.{and-on, and-off}
-use Rattle.shortlist.specs.Bound.{mostWord, near, partOf, passes, within}
-use Rattle.shortlist.proofs.Terms.{not-true, not-false, near-is, part-is, reach-low}
+use Rattle.bounds.specs.Bound.{mostWord, near, partOf, passes, within}
+use Rattle.bounds.proofs.Terms.{not-true, not-false, near-is, part-is, reach-low}
 use borrow.Author.Needs.{needs}
-use Rattle.shortlist.proofs.is_within.Statement.{statement}
-use Rattle.shortlist.proofs.is_within.Tie as tie
+use Rattle.bounds.proofs.is_within.Statement.{statement}
+use Rattle.bounds.proofs.is_within.Tie as tie
 
 unit-key-requires : tie.Need-unit-key-requires
 unit-key-requires c κs = search needs

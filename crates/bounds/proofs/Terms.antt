@@ -14,7 +14,7 @@ use Rattle.rules.specs.Draw.{fractionBelow, keyDenominator, shifted}
 use Rattle.fraction.specs.declared.Fraction.{Fraction}
 use Rattle.fraction.proofs.Cross.{by-test}
 use Rattle.keys.specs.Units.{numOf, denOf, Units, UnitKey}
-use Rattle.shortlist.specs.Bound.{keyLess, near, partOf, Reach}
+use Rattle.bounds.specs.Bound.{keyLess, near, partOf, Reach}
 
 pub not-true : (b : Bool) → not b ≡ true → b ≡ false
 not-true true h = sym h
