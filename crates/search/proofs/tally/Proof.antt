@@ -1,19 +1,20 @@
--- One pass; nothing is promised of what it finds.
+-- A count of places, which does not wrap: it is at most j.
 use native.Mathlib.Omega.{arith}
 use Prim.Native.Nat.{ℕ, _-_, _≤_}
 use lib.ListN.{length}
+use mathlib.Core.Logic.{⊎-elim}
 use borrow.Author.Needs.{needs}
-use Rattle.shortlist.proofs.search.most.Statement.{statement}
-use Rattle.shortlist.proofs.search.most.Tie as tie
+use Rattle.search.proofs.tally.Statement.{statement}
+use Rattle.search.proofs.tally.Tie as tie
 
 abbrev Inv-loop : tie.InvT-loop
-Inv-loop parts most₀ j₀ most j = j ≤ length parts
+Inv-loop parts t many₀ j₀ many j = (j ≤ length parts) × (many ≤ j)
 
 abbrev μ-loop : tie.MeasureT-loop
-μ-loop parts most₀ j₀ most j = length parts - j
+μ-loop parts t many₀ j₀ many j = length parts - j
 
 loop-holds : tie.Need-loop-holds Inv-loop μ-loop
-loop-holds c = omega arith
+loop-holds c = (omega arith, omega arith)
 
 mul-if1 : tie.Need-mul-if1 Inv-loop μ-loop
 mul-if1 c = search needs
@@ -21,11 +22,8 @@ mul-if1 c = search needs
 shared-slice-read-if1 : tie.Need-shared-slice-read-if1 Inv-loop μ-loop
 shared-slice-read-if1 c = search needs
 
-mul-most : tie.Need-mul-most Inv-loop μ-loop
-mul-most c = search needs
-
-shared-slice-read-most : tie.Need-shared-slice-read-most Inv-loop μ-loop
-shared-slice-read-most c = search needs
+add-many : tie.Need-add-many Inv-loop μ-loop
+add-many c = search needs
 
 add-j : tie.Need-add-j Inv-loop μ-loop
 add-j c = search needs
@@ -34,13 +32,13 @@ loop-less : tie.Need-loop-less Inv-loop μ-loop
 loop-less c = search needs
 
 loop-again : tie.Need-loop-again Inv-loop μ-loop
-loop-again c = omega arith
+loop-again c = (omega arith, ⊎-elim (λ w. omega (arith, w .1)) (λ w. omega (arith, w .1)) (c .if1 .came))
 
 returns : tie.Need-returns Inv-loop μ-loop
 returns c = tt
 
-pub most-spec : {M : Type 1} → statement M
-most-spec =
+pub tally-spec : {M : Type 1} → statement M
+tally-spec =
     tie.close
     (tie.spec
     Inv-loop
@@ -48,8 +46,7 @@ most-spec =
     loop-holds
     mul-if1
     shared-slice-read-if1
-    mul-most
-    shared-slice-read-most
+    add-many
     add-j
     loop-less
     loop-again

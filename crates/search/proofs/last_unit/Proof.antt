@@ -3,8 +3,8 @@ use native.Mathlib.Omega.{arith}
 use Prim.Native.Nat.{ℕ, _-_, _≤_}
 use lib.ListN.{length}
 use borrow.Author.Needs.{needs}
-use Rattle.shortlist.proofs.search.last_unit.Statement.{statement}
-use Rattle.shortlist.proofs.search.last_unit.Tie as tie
+use Rattle.search.proofs.last_unit.Statement.{statement}
+use Rattle.search.proofs.last_unit.Tie as tie
 
 abbrev Inv-loop : tie.InvT-loop
 Inv-loop units parts part z many₀ last₀ j₀ many last j = j ≤ length units

@@ -3,8 +3,8 @@ use native.Mathlib.Omega.{arith}
 use Prim.Native.Nat.{ℕ, _-_, _≤_}
 use Rattle.bounds.specs.Bound.{mostWord}
 use borrow.Author.Needs.{needs}
-use Rattle.shortlist.proofs.search.nth.Statement.{statement}
-use Rattle.shortlist.proofs.search.nth.Tie as tie
+use Rattle.search.proofs.nth.Statement.{statement}
+use Rattle.search.proofs.nth.Tie as tie
 
 abbrev Inv-loop : tie.InvT-loop
 Inv-loop parts z low₀ high₀ low high = (low ≤ high) × (high ≤ mostWord)
