@@ -7,7 +7,7 @@ use Rattle.group.specs.declared.Group.{Group}
 use Rattle.bounds.specs.Bound.{Reach}
 use Rattle.shortlist.specs.Found.{Bounds}
 use Rattle.draw.specs.declared.told.Told.{Told}
-use Rattle.ranking.specs.Sampling.{IsThreshold}
+use Rattle.threshold.specs.Threshold.{IsThreshold}
 
 pub record Tells (ts rs gs : List ℕ) (g : Group) (start : ℕ) (s : Told) : Type 0 where
   pub by-bound : s .sure ≡ true → Bounds ts rs gs start (g .q + g .n) (s .bound)

@@ -2,8 +2,8 @@
 // else by the last sampled unit.
 use bounds::Bound;
 use group::Group;
-use ranking::Threshold;
 use terms::Key;
+use threshold::Threshold;
 ghost use mathlib.Core.Path.{_≡_};
 ghost use Prim.Native.Nat.{_<_};
 ghost use lib.ListN.{length};
@@ -43,7 +43,7 @@ pub fn tell(turnovers: &[u64], randoms: &[u32], gaps: &[u64], g: Group, start: u
             threshold: none,
         };
     }
-    let threshold = ranking::last_sampled(turnovers, randoms, gaps, g, start);
+    let threshold = threshold::last_sampled(turnovers, randoms, gaps, g, start);
     Told {
         bound,
         sure: false,
@@ -67,7 +67,7 @@ pub fn is_sampled(
 {
     let threshold = s.threshold;
     if !s.sure {
-        return ranking::is_sampled(turnovers, randoms, gaps, g, start, threshold, i);
+        return threshold::is_sampled(turnovers, randoms, gaps, g, start, threshold, i);
     }
     if gaps[i] == 0 {
         return false;
