@@ -15,9 +15,11 @@ use Rattle.selection.specs.Ranked.{Ranked}
 use Rattle.selection.proofs.Sums.{listed-length}
 use Rattle.selection.proofs.Places.{ranked-short}
 use Rattle.selection.proofs.TakeAll.{size-le, rest-le, outside-count}
-use Rattle.takeall.specs.declared.Group.{Group}
-use Rattle.takeall.specs.Group.{Sized, IsGroup, rulesGroup}
-use Rattle.ranking.specs.Sampling.{outside, keyOrder, Ready}
+use Rattle.group.specs.declared.Group.{Group}
+use Rattle.largest.specs.Sized.{Sized}
+use Rattle.group.specs.Group.{IsGroup, rulesGroup}
+use Rattle.terms.specs.Terms.{outside, Ready}
+use Rattle.ranking.specs.Sampling.{keyOrder}
 use Rattle.panel.specs.Panel.{Arrays}
 use Rattle.panel.proofs.Panel.{drawn, drawn-any}
 

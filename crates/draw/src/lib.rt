@@ -1,8 +1,8 @@
 // The draw (document 01, "Frame and weights" and "Draw"; 001, section 2.3 and formulas 21 and 22): a panel of z units of a frame, under a start.
 use frame::MOST_FRAME;
+use group::Group;
 use refusals::Refusal;
 use refusals::Verdict;
-use takeall::Group;
 ghost use mathlib.Core.Path.{_≡_};
 ghost use mathlib.Core.List.{_++_};
 ghost use Prim.Native.Nat.{_+_, _≤_};
@@ -11,9 +11,10 @@ ghost use Rattle.rules.specs.Selection.{count, listed};
 ghost use Rattle.rules.specs.TakeAll.{frame, baseWeight};
 ghost use Rattle.rules.specs.Draw.{drawnBy, frameRefusal, drawRefusal, drawAnswer, drawNumbers, drawWeights};
 ghost use Rattle.refusals.specs.Number.{verdictOf};
-ghost use Rattle.takeall.specs.Group.{Sized, IsGroup, rulesGroup};
-ghost use Rattle.ranking.specs.Sampling.{unnumbered, Ready};
-ghost use Rattle.ranking.specs.Gaps.{Gaps};
+ghost use Rattle.largest.specs.Sized.{Sized};
+ghost use Rattle.group.specs.Group.{IsGroup, rulesGroup};
+ghost use Rattle.terms.specs.Terms.{unnumbered, Ready};
+ghost use Rattle.terms.specs.Gaps.{Gaps};
 ghost use Rattle.draw.specs.Answer.{answerOf};
 
 // Units of a small frame: as many as a job holds.
@@ -68,7 +69,7 @@ fn write_ordered(
     ensures { λ _. ⌜ now (weights .exit) ≡ listed (drawnBy (unnumbered (now (turnovers .entry)) (now (randoms .entry))) (rulesGroup (now (turnovers .entry)) g) start) (baseWeight (now (turnovers .entry)) (rulesGroup (now (turnovers .entry)) g)) (length (now (turnovers .entry))) ++ drop (g .q + g .n) (now (weights .entry)) ⌝ }
     ensures { λ _. ⌜ count (drawnBy (unnumbered (now (turnovers .entry)) (now (randoms .entry))) (rulesGroup (now (turnovers .entry)) g) start) (length (now (turnovers .entry))) ≡ g .q + g .n ⌝ }
 {
-    let largest = takeall::largest::largest_units(turnovers, g.q + g.n);
+    let largest = largest::largest_units(turnovers, g.q + g.n);
     let sampled = ranking::sampled_units(turnovers, randoms, gaps, g, start);
     panel::write_panel(
         numbers,
@@ -100,9 +101,9 @@ fn draw_with(
     ensures { λ _. ⌜ now (panel .exit) ≡ drawNumbers (frame (now (numbers .entry)) (now (turnovers .entry)) (now (randoms .entry))) z start (now (panel .entry)) (now (weights .entry)) ⌝ }
     ensures { λ _. ⌜ now (weights .exit) ≡ drawWeights (frame (now (numbers .entry)) (now (turnovers .entry)) (now (randoms .entry))) z start (now (panel .entry)) (now (weights .entry)) ⌝ }
 {
-    let g = takeall::find_group(turnovers, z);
-    ranking::gaps::fill(turnovers, g, gaps);
-    let reach = shortlist::reach_of(g.n as u64);
+    let g = group::find_group(turnovers, z);
+    terms::gaps::fill(turnovers, g, gaps);
+    let reach = bounds::reach_of(g.n as u64);
     let found = shortlist::find(turnovers, randoms, gaps, start, reach, z);
     if found.sure {
         panel::write_found(numbers, turnovers, randoms, g, start, found, panel, weights);

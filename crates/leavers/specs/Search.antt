@@ -3,10 +3,10 @@ use mathlib.Core.List.{List}
 use Prim.Native.Nat.{ℕ, _<_, _≤_}
 use lib.ListN.{length, getD}
 use Rattle.rules.specs.Limits.{mostPanel, randomRange}
-use Rattle.takeall.specs.declared.Group.{Group}
+use Rattle.group.specs.declared.Group.{Group}
 use Rattle.members.specs.declared.Places.{Places}
-use Rattle.ranking.specs.Sampling.{Ready}
-use Rattle.ranking.specs.Gaps.{Gaps}
+use Rattle.terms.specs.Terms.{Ready}
+use Rattle.terms.specs.Gaps.{Gaps}
 
 -- units that are held as places of a frame of n units
 pub record Within (n : ℕ) (units : Places) : Type 0 where

@@ -2,17 +2,17 @@
 // leave, and the leavers' numbers written out. A step looks for the last sampled unit under its start and holds each member against it.
 use frame::MOST_PANEL;
 use frame::RANDOM_RANGE;
+use group::Group;
 use members::Places;
 use panel::told;
-use takeall::Group;
 ghost use mathlib.Core.Path.{_≡_};
 ghost use Prim.Native.Nat.{_<_, _≤_};
 ghost use lib.ListN.{length, getD};
 ghost use Rattle.rules.specs.Limits.{randomRange, steps};
 ghost use Rattle.rules.specs.Rotation.{startAt};
-ghost use Rattle.takeall.specs.Group.{rulesGroup};
+ghost use Rattle.group.specs.Group.{rulesGroup};
 ghost use Rattle.members.specs.Places.{Holding};
-ghost use Rattle.ranking.specs.Sampling.{unnumbered};
+ghost use Rattle.terms.specs.Terms.{unnumbered};
 ghost use Rattle.leavers.specs.Leaving.{memberLeaves, firstStep, inPlaceOrder};
 ghost use Rattle.leavers.specs.Buffer.{Written};
 ghost use Rattle.leavers.specs.Search.{Within, Searched};

@@ -1,7 +1,7 @@
 // The members of a rotation (document 01, "Rotation"): "old panel units that are in the frame and not take-all now". They do not
 // depend on the start, so a rotation finds them once and each step looks at them alone.
 use frame::MOST_PANEL;
-use takeall::Group;
+use group::Group;
 ghost use mathlib.Core.Path.{_≡_};
 ghost use mathlib.Core.Bool.{true};
 ghost use mathlib.Core.List.{[]};
@@ -11,7 +11,7 @@ ghost use Rattle.rules.specs.Limits.{mostPanel};
 ghost use Rattle.rules.specs.Lists.{rising};
 ghost use Rattle.rules.specs.TakeAll.{frame};
 ghost use Rattle.rules.specs.Rotation.{member};
-ghost use Rattle.takeall.specs.Group.{LastOf, rulesGroup};
+ghost use Rattle.group.specs.Group.{LastOf, rulesGroup};
 ghost use Rattle.members.specs.Places.{PlacesOf, inPanel};
 
 // Units of the frame: the first `count` of `places` are their places in it, rising.
@@ -65,7 +65,7 @@ pub fn members(numbers: &[u32], turnovers: &[u64], panel: &[u32], g: Group) -> P
     let mut j: usize = 0;
     while j < many {
         let i = units[j];
-        if !takeall::takes_all(turnovers, g, i) {
+        if !group::takes_all(turnovers, g, i) {
             places[kept] = i;
             kept += 1;
         }

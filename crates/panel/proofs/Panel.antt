@@ -17,9 +17,10 @@ use Rattle.selection.proofs.Sums.{count-yes, count-skip, count-rest, listed-ski
 use Rattle.selection.proofs.Places.{held-first, first-held, count-held}
 use Rattle.selection.proofs.TakeAll.{larger-order}
 use Rattle.selection.proofs.Panel.{panel-parts}
-use Rattle.takeall.specs.declared.Group.{Group}
-use Rattle.takeall.specs.Group.{rulesGroup}
-use Rattle.ranking.specs.Sampling.{unnumbered, outside, keyOrder, Ready}
+use Rattle.group.specs.declared.Group.{Group}
+use Rattle.group.specs.Group.{rulesGroup}
+use Rattle.terms.specs.Terms.{unnumbered, outside, Ready}
+use Rattle.ranking.specs.Sampling.{keyOrder}
 use Rattle.panel.specs.Panel.{Next, Arrays}
 use Rattle.ranking.proofs.Sampling.{key-is-order, sampled-is}
 

@@ -21,17 +21,20 @@ use Rattle.selection.proofs.Orders.{by-left, by-right}
 use Rattle.selection.proofs.Listed.{listed-same}
 use Rattle.selection.proofs.Segment.{Segment, segment-firsts}
 use Rattle.selection.proofs.TakeAll.{group-size}
-use Rattle.takeall.specs.declared.Group.{Group}
-use Rattle.takeall.specs.Group.{rulesGroup}
+use Rattle.group.specs.declared.Group.{Group}
+use Rattle.group.specs.Group.{rulesGroup}
 use Rattle.keys.specs.Units.{numOf, denOf}
-use Rattle.shortlist.specs.declared.Bound.{Bound}
-use Rattle.shortlist.specs.Bound.{keyLess, near, partOf, passes, within, Reach, Bounds}
+use Rattle.bounds.specs.declared.Bound.{Bound}
+use Rattle.bounds.specs.Bound.{keyLess, near, partOf, passes, within, Reach}
+use Rattle.shortlist.specs.Found.{Bounds}
 use Rattle.shortlist.proofs.Bounded.{bound-parts}
 use Rattle.shortlist.proofs.Searched.{unit-positive}
-use Rattle.ranking.specs.Sampling.{unnumbered, outside, keyOrder, Ready}
-use Rattle.ranking.specs.Gaps.{gapOf, Gaps}
-use Rattle.ranking.proofs.Sampling.{outside-is, outside-not, key-is-order, sampled-is, sampled-none, sampled-inside}
-use Rattle.ranking.proofs.ByGaps.{units-of, num-is, den-is, gap-inside, gap-outside, zero-inside}
+use Rattle.terms.specs.Terms.{unnumbered, outside, Ready}
+use Rattle.ranking.specs.Sampling.{keyOrder}
+use Rattle.terms.specs.Gaps.{gapOf, Gaps}
+use Rattle.terms.proofs.Outside.{outside-is, outside-not}
+use Rattle.ranking.proofs.Sampling.{key-is-order, sampled-is, sampled-none, sampled-inside}
+use Rattle.terms.proofs.ByGaps.{units-of, num-is, den-is, gap-inside, gap-outside, zero-inside}
 use Rattle.panel.proofs.Panel.{drawn, drawn-is}
 
 -- ---- a gap of 0 is that of a unit that is not sampled, and any other that of a unit outside take-all

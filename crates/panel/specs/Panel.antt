@@ -6,8 +6,9 @@ use lib.ListN.{length, getD}
 use Rattle.rules.specs.Selection.{every}
 use Rattle.rules.specs.TakeAll.{larger}
 use Rattle.selection.specs.Ranked.{Ranked}
-use Rattle.takeall.specs.declared.Group.{Group}
-use Rattle.ranking.specs.Sampling.{outside, keyOrder}
+use Rattle.group.specs.declared.Group.{Group}
+use Rattle.terms.specs.Terms.{outside}
+use Rattle.ranking.specs.Sampling.{keyOrder}
 
 -- r is the smallest of the first `len` units that is `from` or higher, or `end` where none such is below it
 pub record Next (units : List ℕ) (len from end r : ℕ) : Type 0 where

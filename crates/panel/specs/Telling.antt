@@ -3,10 +3,11 @@ use mathlib.Core.Path.{_≡_}
 use mathlib.Core.Bool.{true, false}
 use mathlib.Core.List.{List}
 use Prim.Native.Nat.{ℕ, _+_, _/_}
-use Rattle.takeall.specs.declared.Group.{Group}
-use Rattle.shortlist.specs.Bound.{Reach, Bounds}
+use Rattle.group.specs.declared.Group.{Group}
+use Rattle.bounds.specs.Bound.{Reach}
+use Rattle.shortlist.specs.Found.{Bounds}
 use Rattle.panel.specs.declared.told.Told.{Told}
-use Rattle.ranking.specs.Sampling.{IsThreshold}
+use Rattle.threshold.specs.Threshold.{IsThreshold}
 
 pub record Tells (ts rs gs : List ℕ) (g : Group) (start : ℕ) (s : Told) : Type 0 where
   pub by-bound : s .sure ≡ true → Bounds ts rs gs start (g .q + g .n) (s .bound)

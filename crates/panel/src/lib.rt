@@ -3,8 +3,8 @@
 // module `told`.
 pub mod told;
 
+use group::Group;
 use shortlist::Found;
-use takeall::Group;
 ghost use mathlib.Core.Path.{_≡_};
 ghost use mathlib.Core.List.{_++_};
 ghost use Prim.Native.Nat.{_+_, _<_, _≤_};
@@ -13,9 +13,10 @@ ghost use Rattle.rules.specs.Selection.{listed, every};
 ghost use Rattle.rules.specs.TakeAll.{larger, baseWeight};
 ghost use Rattle.rules.specs.Draw.{drawnBy};
 ghost use Rattle.selection.specs.Ranked.{Ranked};
-ghost use Rattle.takeall.specs.Group.{rulesGroup};
-ghost use Rattle.ranking.specs.Sampling.{unnumbered, outside, keyOrder, Ready};
-ghost use Rattle.shortlist.specs.Bound.{passing, Passing};
+ghost use Rattle.group.specs.Group.{rulesGroup};
+ghost use Rattle.terms.specs.Terms.{unnumbered, outside, Ready};
+ghost use Rattle.ranking.specs.Sampling.{keyOrder};
+ghost use Rattle.shortlist.specs.Found.{passing, Passing};
 ghost use Rattle.panel.specs.Panel.{Next, Arrays};
 
 // The smallest of the first len units that is `from` or higher, or `end` where none such is below it.
@@ -45,7 +46,7 @@ fn weight_of(turnovers: &[u64], randoms: &[u32], g: Group, start: u32, i: usize)
     if g.n == 0 {
         return turnovers[i];
     }
-    if takeall::takes_all(turnovers, g, i) {
+    if group::takes_all(turnovers, g, i) {
         return (g.n as u64) * turnovers[i];
     }
     g.rest
@@ -105,7 +106,7 @@ pub fn write_found(
     let mut j: usize = 0;
     while j < many {
         let i = units[j];
-        if shortlist::is_passed(bound, parts[j], i) {
+        if bounds::is_passed(bound, parts[j], i) {
             panel[k] = numbers[i];
             weights[k] = weight_of(turnovers, randoms, g, start, i);
             k += 1;

@@ -1,16 +1,16 @@
 // Who is sampled under a start (document 01, "Draw"), for a caller that asks it of a few units: by the bound of a short list where that is sure, and
 // else by the last sampled unit.
-use ranking::Key;
-use ranking::Threshold;
-use shortlist::Bound;
-use takeall::Group;
+use bounds::Bound;
+use group::Group;
+use terms::Key;
+use threshold::Threshold;
 ghost use mathlib.Core.Path.{_≡_};
 ghost use Prim.Native.Nat.{_<_};
 ghost use lib.ListN.{length};
 ghost use Rattle.rules.specs.Draw.{sampledBy};
-ghost use Rattle.takeall.specs.Group.{rulesGroup};
-ghost use Rattle.ranking.specs.Sampling.{unnumbered, Ready};
-ghost use Rattle.ranking.specs.Gaps.{Gaps};
+ghost use Rattle.group.specs.Group.{rulesGroup};
+ghost use Rattle.terms.specs.Terms.{unnumbered, Ready};
+ghost use Rattle.terms.specs.Gaps.{Gaps};
 ghost use Rattle.panel.specs.Telling.{Tells};
 
 // The bound, where it is sure; the threshold, where it is not.
@@ -25,7 +25,7 @@ pub fn tell(turnovers: &[u64], randoms: &[u32], gaps: &[u64], g: Group, start: u
     requires { ⌜ Ready (now turnovers) (now randoms) g start × Gaps (now turnovers) g (now gaps) ⌝ }
     ensures { λ s. ⌜ Tells (now (turnovers .entry)) (now (randoms .entry)) (now (gaps .entry)) g start s ⌝ }
 {
-    let reach = shortlist::reach_of(g.n as u64);
+    let reach = bounds::reach_of(g.n as u64);
     let found = shortlist::find(turnovers, randoms, gaps, start, reach, g.q + g.n);
     let bound = found.bound;
     if found.sure {
@@ -43,7 +43,7 @@ pub fn tell(turnovers: &[u64], randoms: &[u32], gaps: &[u64], g: Group, start: u
             threshold: none,
         };
     }
-    let threshold = ranking::last_sampled(turnovers, randoms, gaps, g, start);
+    let threshold = threshold::last_sampled(turnovers, randoms, gaps, g, start);
     Told {
         bound,
         sure: false,
@@ -67,11 +67,11 @@ pub fn is_sampled(
 {
     let threshold = s.threshold;
     if !s.sure {
-        return ranking::is_sampled(turnovers, randoms, gaps, g, start, threshold, i);
+        return threshold::is_sampled(turnovers, randoms, gaps, g, start, threshold, i);
     }
     if gaps[i] == 0 {
         return false;
     }
     let bound = s.bound;
-    shortlist::is_within(turnovers, randoms, gaps, start, bound, i)
+    bounds::is_within(turnovers, randoms, gaps, start, bound, i)
 }

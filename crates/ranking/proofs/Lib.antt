@@ -1,4 +1,2 @@
 pub mod Sampling
-pub mod ByGaps
-pub mod Terms
 pub mod Joining

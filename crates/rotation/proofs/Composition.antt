@@ -16,8 +16,8 @@ use Rattle.refusals.specs.declared.Refusal.the-variants.{NoStep}
 use Rattle.frame.proofs.Refusals.{passed}
 use Rattle.frame.proofs.Accepted.{Accepted, accepted}
 use Rattle.selection.proofs.Sums.{count-every, count-le, listed-length}
-use Rattle.takeall.specs.declared.Group.{Group}
-use Rattle.takeall.specs.Group.{rulesGroup, IsGroup}
+use Rattle.group.specs.declared.Group.{Group}
+use Rattle.group.specs.Group.{rulesGroup, IsGroup}
 use Rattle.draw.proofs.Accepted.{group-is}
 use Rattle.members.specs.declared.Places.{Places}
 use Rattle.members.specs.Places.{Holding, PlacesOf}

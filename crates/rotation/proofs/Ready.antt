@@ -5,9 +5,9 @@ use Prim.Native.Nat.{ℕ}
 use lib.ListN.{length}
 use Rattle.rules.specs.TakeAll.{frame}
 use Rattle.frame.proofs.Accepted.{Accepted}
-use Rattle.takeall.specs.declared.Group.{Group}
-use Rattle.takeall.specs.Group.{IsGroup}
-use Rattle.ranking.specs.Gaps.{Gaps}
+use Rattle.group.specs.declared.Group.{Group}
+use Rattle.group.specs.Group.{IsGroup}
+use Rattle.terms.specs.Gaps.{Gaps}
 use Rattle.draw.proofs.Accepted.{frame-ready}
 use Rattle.members.specs.declared.Places.{Places}
 use Rattle.members.specs.Places.{PlacesOf}

@@ -3,9 +3,9 @@
 use frame::MOST_FRAME;
 use leavers::STEPS;
 use oldpanel::FRACTION_SCALE;
-use ranking::gaps;
 use refusals::Refusal;
 use refusals::Verdict;
+use terms::gaps;
 ghost use mathlib.Core.Path.{_≡_};
 ghost use Prim.Native.Nat.{_≤_};
 ghost use lib.ListN.{length};
@@ -46,7 +46,7 @@ fn turn(
     ensures { λ r. ⌜ answerOf r ≡ rotationAnswer (frame (now (numbers .entry)) (now (turnovers .entry)) (now (randoms .entry))) z old (now (panel .entry)) fraction (now (leavers .entry)) ⌝ }
     ensures { λ _. ⌜ Written (rotationLeavers (frame (now (numbers .entry)) (now (turnovers .entry)) (now (randoms .entry))) z old (now (panel .entry)) fraction (now (leavers .entry))) (now (leavers .entry)) (now (leavers .exit)) ⌝ }
 {
-    let g = takeall::find_group(turnovers, z);
+    let g = group::find_group(turnovers, z);
     let mut gaps = [0u64; MOST_FRAME];
     gaps::fill(turnovers, g, &mut gaps);
     let members = members::members(numbers, turnovers, panel, g);

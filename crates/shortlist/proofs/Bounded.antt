@@ -19,8 +19,9 @@ use Rattle.selection.proofs.Logic.{not-both, and-left, and-right, and-on, lt-or
 use Rattle.selection.proofs.Sums.{sum-same, listed-length}
 use Rattle.selection.proofs.Listed.{listed-has, has-room, count-again}
 use Rattle.keys.specs.Units.{numOf, denOf, Units}
-use Rattle.shortlist.specs.declared.Bound.{Bound}
-use Rattle.shortlist.specs.Bound.{keyLess, near, partOf, passes, within, mostWord, Scaled, Parts, Apart, Checked, Bounds}
+use Rattle.bounds.specs.declared.Bound.{Bound}
+use Rattle.bounds.specs.Bound.{keyLess, near, partOf, passes, within, mostWord, Apart, Checked}
+use Rattle.shortlist.specs.Found.{Scaled, Parts, Bounds}
 
 -- a lower part is a lower key: key × scale has a lower whole part
 part-less : (a b c d scale : ℕ) → 0 < b → 0 < d → a * scale / b < c * scale / d → fractionBelow a b c d ≡ true

@@ -1,4 +1,3 @@
-pub mod Terms
 pub mod Listing
 pub mod Bounded
 pub mod Searched

@@ -16,10 +16,11 @@ use Rattle.rules.specs.Tests.{_and_}
 use Rattle.selection.proofs.Listed.{listed-low, listed-again, listed-same}
 use Rattle.keys.specs.Units.{numOf, denOf, Units}
 use Rattle.keys.proofs.Keys.{shifted-low, denominator-positive}
-use Rattle.shortlist.specs.declared.Bound.{Bound}
+use Rattle.bounds.specs.declared.Bound.{Bound}
 use Rattle.shortlist.specs.declared.Shortlist.{Shortlist}
 use Rattle.shortlist.specs.declared.Found.{Found}
-use Rattle.shortlist.specs.Bound.{listRoom, near, partOf, mostWord, Listed, Placed, Under, Scaled, Parts, Checked, IsFound, passes, passing, within, Passing}
+use Rattle.bounds.specs.Bound.{near, partOf, mostWord, Placed, Checked, passes, within}
+use Rattle.shortlist.specs.Found.{listRoom, Listed, Under, Scaled, Parts, IsFound, passing, Passing}
 use Rattle.shortlist.proofs.Bounded.{checked-bounds}
 
 pub unit-positive : (ts rs gs : List ℕ) (start : ℕ) → Units ts rs gs start → (i : ℕ) → i < length ts → 0 < denOf ts rs start i

@@ -1,4 +1,2 @@
-pub mod Later
-pub mod Groups
 pub mod Refusals
 pub mod Marks

@@ -12,7 +12,7 @@ use Rattle.refusals.specs.declared.Refusal.{Refusal}
 use Rattle.refusals.proofs.Numbers.{number-some}
 use Rattle.frame.proofs.Refusals.{refuse-none}
 use Rattle.frame.proofs.Accepted.{units}
-use Rattle.takeall.specs.Group.{Sized}
+use Rattle.largest.specs.Sized.{Sized}
 
 -- what is written on a refusal: nothing
 pub written-refused : (why : Refusal) (number : ℕ) (news buffer : List ℕ) → number ≡ numberOf why → written number news buffer ≡ buffer

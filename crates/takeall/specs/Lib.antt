@@ -1,2 +1,1 @@
-pub mod Group
 pub mod Answer

@@ -7,14 +7,15 @@ use lib.ListN.{length, getD, drop}
 use Rattle.rules.specs.Limits.{mostPanel}
 use Rattle.rules.specs.TakeAll.{Frame, frame, baseWeight}
 use Rattle.frame.proofs.Accepted.{Accepted, accepted}
-use Rattle.takeall.specs.declared.Group.{Group}
-use Rattle.takeall.specs.Group.{Sized, IsGroup, rulesGroup}
-use Rattle.shortlist.specs.Bound.{Passing}
+use Rattle.group.specs.declared.Group.{Group}
+use Rattle.largest.specs.Sized.{Sized}
+use Rattle.group.specs.Group.{IsGroup, rulesGroup}
+use Rattle.shortlist.specs.Found.{Passing}
 use Rattle.shortlist.proofs.Searched.{found-listed, found-passing}
-use Rattle.ranking.specs.Sampling.{Ready}
+use Rattle.terms.specs.Terms.{Ready}
 use Rattle.draw.proofs.Refusals.{frame-accepted, room}
 use Rattle.draw.proofs.Accepted.{frame-sized, own-size, frame-ready, panel-size, numbers-accepted, weights-accepted}
-use Rattle.ranking.proofs.ByGaps.{units-of}
+use Rattle.terms.proofs.ByGaps.{units-of}
 use Rattle.panel.proofs.Short.{reach-at, bounds-at, within-listed, drawn-many}
 use borrow.Author.Needs.{needs}
 use Rattle.draw.proofs.draw_with.Statement.{statement}

@@ -6,8 +6,8 @@ use Prim.Native.Nat.{ℕ, _+_, _-_, _≤_, _<_}
 use native.Mathlib.Omega.{arith}
 use lib.ListN.{length, getD}
 use borrow.Author.Needs.{needs}
-use Rattle.takeall.specs.Group.{rulesGroup}
-use Rattle.ranking.specs.Sampling.{unnumbered}
+use Rattle.group.specs.Group.{rulesGroup}
+use Rattle.terms.specs.Terms.{unnumbered}
 use Rattle.members.specs.Places.{Holding}
 use Rattle.members.proofs.Held.{held, hold-none, hold-not, hold-more, hold-same}
 use Rattle.leavers.specs.Leaving.{memberLeaves}

@@ -9,9 +9,9 @@ use Rattle.rules.specs.Limits.{steps, randomRange}
 use Rattle.rules.specs.Selection.{count, leastFrom}
 use Rattle.rules.specs.Rotation.{startAt}
 use Rattle.selection.proofs.Least.{least-hit, least-miss, least-end}
-use Rattle.takeall.specs.Group.{rulesGroup}
+use Rattle.group.specs.Group.{rulesGroup}
 use Rattle.leavers.specs.Leaving.{memberLeaves, leaving, enoughLeave, firstStep}
-use Rattle.ranking.specs.Sampling.{unnumbered}
+use Rattle.terms.specs.Terms.{unnumbered}
 use Rattle.leavers.proofs.Starts.{start-low}
 use Rattle.leavers.proofs.first_step.Statement.{statement}
 use Rattle.leavers.proofs.first_step.Tie as tie

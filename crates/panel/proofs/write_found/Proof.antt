@@ -9,9 +9,9 @@ use lib.ListN.{length, getD, set, drop, length-set}
 use Rattle.rules.specs.Selection.{count, listed}
 use Rattle.rules.specs.TakeAll.{baseWeight}
 use Rattle.selection.proofs.Sums.{count-zero, count-yes, count-not, count-grows, listed-not, list-store}
-use Rattle.takeall.specs.Group.{rulesGroup}
-use Rattle.shortlist.specs.declared.Bound.{Bound}
-use Rattle.shortlist.specs.Bound.{passes}
+use Rattle.group.specs.Group.{rulesGroup}
+use Rattle.bounds.specs.declared.Bound.{Bound}
+use Rattle.bounds.specs.Bound.{passes}
 use borrow.Author.Needs.{needs}
 use Rattle.panel.proofs.write_found.Statement.{statement}
 use Rattle.panel.proofs.write_found.Tie as tie

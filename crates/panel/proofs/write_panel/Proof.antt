@@ -7,7 +7,7 @@ use lib.ListN.{length, getD, set, drop, length-set}
 use Rattle.rules.specs.Selection.{count, listed}
 use Rattle.rules.specs.TakeAll.{baseWeight}
 use Rattle.selection.proofs.Sums.{count-zero}
-use Rattle.takeall.specs.Group.{rulesGroup}
+use Rattle.group.specs.Group.{rulesGroup}
 use Rattle.panel.proofs.Panel.{drawn, next-low, next-stored, next-counted, all-written}
 use Rattle.panel.proofs.write_panel.Statement.{statement}
 use Rattle.panel.proofs.write_panel.Tie as tie

@@ -10,10 +10,10 @@ use Rattle.rules.specs.TakeAll.{frame}
 use Rattle.frame.proofs.Accepted.{Accepted}
 use Rattle.oldpanel.proofs.Refusals.{OldPassed}
 use Rattle.rules.specs.Rotation.{required}
-use Rattle.takeall.specs.Group.{rulesGroup}
+use Rattle.group.specs.Group.{rulesGroup}
 use Rattle.members.proofs.Held.{hold-most}
 use Rattle.leavers.specs.Leaving.{firstStep}
-use Rattle.ranking.specs.Sampling.{unnumbered}
+use Rattle.terms.specs.Terms.{unnumbered}
 use Rattle.draw.proofs.Accepted.{frame-sized, own-size}
 use Rattle.leavers.proofs.Starts.{start-low}
 use Rattle.rotation.proofs.Ready.{searched}

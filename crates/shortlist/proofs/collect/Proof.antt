@@ -5,8 +5,9 @@ use mathlib.Core.Path.{_≡_, refl, sym, ap, _∙_, subst}
 use mathlib.Core.Logic.{⊎-elim}
 use mathlib.Core.List.{List}
 use lib.ListN.{length, getD, set, length-set}
-use Rattle.shortlist.specs.Bound.{listRoom, near, Listed}
-use Rattle.shortlist.proofs.Terms.{near-is, reach-low}
+use Rattle.bounds.specs.Bound.{near}
+use Rattle.shortlist.specs.Found.{listRoom, Listed}
+use Rattle.bounds.proofs.Terms.{near-is, reach-low}
 use Rattle.shortlist.proofs.Listing.{Held, held-none, held-not, held-more, held-same}
 use borrow.Author.Needs.{needs}
 use Rattle.shortlist.proofs.collect.Statement.{statement}

@@ -4,7 +4,7 @@ use mathlib.Core.Bool.{true, false}
 use mathlib.Core.Path.{_≡_, refl, sym, _∙_}
 use lib.ListN.{length, take, length-take}
 use Rattle.selection.proofs.Logic.{not-both}
-use Rattle.shortlist.specs.Bound.{mostWord}
+use Rattle.bounds.specs.Bound.{mostWord}
 use Rattle.shortlist.proofs.Searched.{under-scaled, listed-count, listed-placed, is-found}
 use borrow.Author.Needs.{needs}
 use Rattle.shortlist.proofs.find.Statement.{statement}

@@ -8,7 +8,7 @@ use native.Mathlib.Nat.{not-suc-le-zero, eq-or-lt-of-le, le-of-suc-le-suc, le-tr
 use native.Mathlib.Numerals.{add-one}
 use lib.ListN.{length, getD}
 use Rattle.keys.specs.Units.{numOf}
-use Rattle.shortlist.specs.Bound.{Under}
+use Rattle.shortlist.specs.Found.{Under}
 use borrow.Author.Needs.{needs}
 use Rattle.shortlist.proofs.most_numerator.Statement.{statement}
 use Rattle.shortlist.proofs.most_numerator.Tie as tie

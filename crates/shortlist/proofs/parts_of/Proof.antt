@@ -8,8 +8,9 @@ use native.Mathlib.Nat.{not-suc-le-zero, eq-or-lt-of-le, le-of-suc-le-suc}
 use native.Mathlib.Numerals.{add-one}
 use lib.ListN.{length, getD, set, length-set}
 use lib.Seq.{getD-set-same, getD-set-other}
-use Rattle.shortlist.specs.Bound.{listRoom, partOf, mostWord, Parts}
-use Rattle.shortlist.proofs.Terms.{part-is}
+use Rattle.bounds.specs.Bound.{partOf, mostWord}
+use Rattle.shortlist.specs.Found.{listRoom, Parts}
+use Rattle.bounds.proofs.Terms.{part-is}
 use borrow.Author.Needs.{needs}
 use Rattle.shortlist.proofs.parts_of.Statement.{statement}
 use Rattle.shortlist.proofs.parts_of.Tie as tie

@@ -3,7 +3,7 @@ use native.Mathlib.Omega.{arith}
 use mathlib.Core.Bool.{true, false}
 use mathlib.Core.Path.{_≡_, refl, _∙_}
 use Rattle.selection.proofs.Logic.{not-both}
-use Rattle.ranking.proofs.ByGaps.{units-of}
+use Rattle.terms.proofs.ByGaps.{units-of}
 use Rattle.panel.proofs.Short.{reach-at}
 use borrow.Author.Needs.{needs}
 use Rattle.panel.proofs.told.tell.Statement.{statement}

@@ -1,0 +1,47 @@
+-- One comparison with the last unit, on the side where the number is.
+use native.Mathlib.Omega.{arith}
+use Prim.Native.Nat.{ℕ}
+use mathlib.Core.Path.{_≡_, sym, _∙_}
+use Rattle.bounds.proofs.Terms.{not-true, key-less}
+use borrow.Author.Needs.{needs}
+use Rattle.bounds.proofs.is_apart.Statement.{statement}
+use Rattle.bounds.proofs.is_apart.Tie as tie
+
+unit-key-requires : tie.Need-unit-key-requires
+unit-key-requires c κs = search needs
+
+unit-key-requires-2 : tie.Need-unit-key-requires-2
+unit-key-requires-2 c κs = search needs
+
+is-below-requires : tie.Need-is-below-requires
+is-below-requires c κs = search needs
+
+returns : tie.Need-returns
+returns c =
+    λ h.
+    record {
+      before = λ l. key-less _ _ _ _ _ _ _ _ (c .before .before .before .unit-key2 .ensures) (c .before .before .before .before .unit-key .ensures) ∙ sym (c .is-below .ensures) ∙ not-true _ h;
+      behind = λ l. absurd (omega (arith, l, c .before .if1 .taken));
+    }
+
+is-below-requires-2 : tie.Need-is-below-requires-2
+is-below-requires-2 c κs = search needs
+
+returns-2 : tie.Need-returns-2
+returns-2 c =
+    λ h.
+    record {
+      before = λ l. absurd (omega (arith, l, c .before .if1 .left));
+      behind = λ l. key-less _ _ _ _ _ _ _ _ (c .before .before .before .before .unit-key .ensures) (c .before .before .before .unit-key2 .ensures) ∙ sym (c .is-below2 .ensures) ∙ not-true _ h;
+    }
+
+pub is-apart-spec : {M : Type 1} → statement M
+is-apart-spec =
+    tie.close
+    (tie.spec
+    unit-key-requires
+    unit-key-requires-2
+    is-below-requires
+    returns
+    is-below-requires-2
+    returns-2)
