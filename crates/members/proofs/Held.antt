@@ -13,7 +13,9 @@ use lib.Seq.{take-suc-set, take-take, take-at, getD-at, getD-take}
 use Rattle.rules.specs.Limits.{mostPanel}
 use Rattle.rules.specs.Tests.{_and_}
 use Rattle.rules.specs.Selection.{count, listed, sumOf, every}
-use Rattle.selection.proofs.Sums.{count-yes, count-not, listed-length, listed-not, listed-skip, count-skip}
+use Rattle.selection.proofs.Sums.{listed-length}
+use Rattle.selection.specs.Held.{Held}
+use Rattle.selection.proofs.Held.{held-none, held-skip, held-not, held-more, held-same}
 use Rattle.selection.proofs.Listed.{listed-low, listed-again, listed-same}
 use Rattle.members.specs.declared.Places.{Places}
 use Rattle.members.specs.Places.{Holding, PlacesOf}
@@ -22,38 +24,31 @@ use Rattle.members.specs.Places.{Holding, PlacesOf}
 abbrev pub held : List ℕ → ℕ → Places
 held ps n = record { places = ps; count = n }
 
+-- what is held, without the room and with it
+bare : {mark : ℕ → Bool} {f : ℕ → ℕ} {i : ℕ} {r : Places} → Holding mark f i r → Held mark f i (r .places) (r .count)
+bare h = record { many = h .many; units-are = h .units }
+
+roomy : {mark : ℕ → Bool} {f : ℕ → ℕ} {i : ℕ} {r : Places} → length (r .places) ≡ mostPanel → Held mark f i (r .places) (r .count) → Holding mark f i r
+roomy l h = record { room = l; many = h .many; units = h .units-are }
+
 -- nothing is held yet
 pub hold-none : (mark : ℕ → Bool) (f : ℕ → ℕ) (ps : List ℕ) → length ps ≡ mostPanel → Holding mark f 0 (held ps 0)
-unfolding count sumOf listed
-hold-none mark f ps l = record { room = l; many = refl; units = refl }
+hold-none mark f ps l = roomy l (held-none mark f ps)
 
 -- units without the mark change nothing
 pub hold-skip : (mark : ℕ → Bool) (f : ℕ → ℕ) (i n : ℕ) (r : Places) → i ≤ n → ((k : ℕ) → i ≤ k → k < n → mark k ≡ false) → Holding mark f i r → Holding mark f n r
-hold-skip mark f i n r l none h = record {
-  room = h .room;
-  many = h .many ∙ sym (count-skip mark i n l none);
-  units = h .units ∙ sym (listed-skip mark f i n l none);
-}
+hold-skip mark f i n r l none h = roomy (h .room) (held-skip mark f i n (r .places) (r .count) l none (bare h))
 
 pub hold-not : (mark : ℕ → Bool) (f : ℕ → ℕ) (i : ℕ) (r : Places) → mark i ≡ false → Holding mark f i r → Holding mark f (i + 1) r
-hold-not mark f i r unmarked h = record {
-  room = h .room;
-  many = h .many ∙ sym (count-not mark i unmarked);
-  units = h .units ∙ sym (listed-not mark f i unmarked);
-}
+hold-not mark f i r unmarked h = roomy (h .room) (held-not mark f i (r .places) (r .count) unmarked (bare h))
 
 -- one with the mark is stored behind those that are there
 pub hold-more : (mark : ℕ → Bool) (f : ℕ → ℕ) (i : ℕ) (ps : List ℕ) (n : ℕ) → mark i ≡ true → n < length ps → Holding mark f i (held ps n) → Holding mark f (i + 1) (held (set ps n (f i)) (n + 1))
-unfolding listed
-hold-more mark f i ps n marked l h = record {
-  room = length-set ps n (f i) ∙ h .room;
-  many = ap (λ (k : ℕ). k + 1) (h .many) ∙ sym (count-yes mark i marked);
-  units = rw (add-one n, add-one i, marked) (take-suc-set ps n (f i) l ∙ ap (λ (xs : List ℕ). xs ++ (f i ∷ [])) (h .units));
-}
+hold-more mark f i ps n marked l h = roomy (length-set ps n (f i) ∙ h .room) (held-more mark f i ps n marked l (bare h))
 
 -- the same places under other names
 pub hold-same : (mark : ℕ → Bool) (f : ℕ → ℕ) (i : ℕ) (ps qs : List ℕ) (n m : ℕ) → ps ≡ qs → n ≡ m → Holding mark f i (held qs m) → Holding mark f i (held ps n)
-hold-same mark f i ps qs n m e g h = subst (λ (k : ℕ). Holding mark f i (held ps k)) (sym g) (subst (λ (xs : List ℕ). Holding mark f i (held xs m)) (sym e) h)
+hold-same mark f i ps qs n m e g h = roomy (ap length e ∙ h .room) (held-same mark f i ps qs n m e g (bare h))
 
 -- no more are held than there is room for
 pub hold-most : (mark : ℕ → Bool) (f : ℕ → ℕ) (n : ℕ) (r : Places) → Holding mark f n r → r .count ≤ mostPanel

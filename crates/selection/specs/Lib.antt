@@ -1,1 +1,2 @@
 pub mod Ranked
+pub mod Held

@@ -8,23 +8,24 @@ use lib.ListN.{length, getD, set, length-set}
 use Rattle.bounds.specs.Bound.{near}
 use Rattle.shortlist.specs.Found.{listRoom, Listed}
 use Rattle.bounds.proofs.Terms.{near-is, reach-low}
-use Rattle.shortlist.proofs.Listing.{Held, held-none, held-not, held-more, held-same}
+use Rattle.selection.specs.Held.{Held}
+use Rattle.selection.proofs.Held.{held-none, held-not, held-more, held-same}
 use borrow.Author.Needs.{needs}
 use Rattle.shortlist.proofs.collect.Statement.{statement}
 use Rattle.shortlist.proofs.collect.Tie as tie
 
 abbrev Inv-loop : tie.InvT-loop
-Inv-loop turnovers randoms gaps start reach units₀ count₀ i₀ units count i = (i ≤ length turnovers) × (count ≤ listRoom) × (length units ≡ listRoom) × Held (near turnovers randoms gaps start reach) i units count
+Inv-loop turnovers randoms gaps start reach units₀ count₀ i₀ units count i = (i ≤ length turnovers) × (count ≤ listRoom) × (length units ≡ listRoom) × Held (near turnovers randoms gaps start reach) (λ k. k) i units count
 
 abbrev μ-loop : tie.MeasureT-loop
 μ-loop turnovers randoms gaps start reach units₀ count₀ i₀ units count i = length turnovers - i
 
 -- what is held after i units is the list of them
-listed-by : (ts rs gs : List ℕ) (start reach : ℕ) (units : List ℕ) (n i : ℕ) → (i ≤ length ts) × (n ≤ listRoom) × (length units ≡ listRoom) × Held (near ts rs gs start reach) i units n → Listed ts rs gs start reach (record { units = units; count = n; seen = i })
+listed-by : (ts rs gs : List ℕ) (start reach : ℕ) (units : List ℕ) (n i : ℕ) → (i ≤ length ts) × (n ≤ listRoom) × (length units ≡ listRoom) × Held (near ts rs gs start reach) (λ k. k) i units n → Listed ts rs gs start reach (record { units = units; count = n; seen = i })
 listed-by ts rs gs start reach units n i h = record { room = h .2; few = h .1; within-frame = h .0; many = h .3 .many; units-are = h .3 .units-are }
 
 loop-holds : tie.Need-loop-holds Inv-loop μ-loop
-loop-holds c = (omega arith, omega arith, refl, held-none _ _)
+loop-holds c = (omega arith, omega arith, refl, held-none _ _ _)
 
 unit-key-requires : tie.Need-unit-key-requires Inv-loop μ-loop
 unit-key-requires c κs = (c .before .before .before .before .before .pre .0, c .loop-test .taken)
@@ -60,8 +61,8 @@ loop-again c =
     ⊎-elim
     (λ w.
     let room : at .count < length (at .units) = omega (arith, w .1 .left, at .inv .2) in
-    (omega arith, omega (arith, w .1 .left, w .3), ap length (w .2) ∙ simp length-set (at .inv .2), held-same mark (at .i + 1) _ _ _ _ (w .2) (w .3) (held-more mark (at .i) (at .units) (at .count) (test ∙ w .0 .taken) room (at .inv .3))))
-    (λ w. (omega arith, omega (arith, w .2, at .inv .1), ap length (w .1) ∙ at .inv .2, held-same mark (at .i + 1) _ _ _ _ (w .1) (w .2) (held-not mark (at .i) (at .units) (at .count) (test ∙ w .0 .left) (at .inv .3))))
+    (omega arith, omega (arith, w .1 .left, w .3), ap length (w .2) ∙ simp length-set (at .inv .2), held-same mark (λ k. k) (at .i + 1) _ _ _ _ (w .2) (w .3) (held-more mark (λ k. k) (at .i) (at .units) (at .count) (test ∙ w .0 .taken) room (at .inv .3))))
+    (λ w. (omega arith, omega (arith, w .2, at .inv .1), ap length (w .1) ∙ at .inv .2, held-same mark (λ k. k) (at .i + 1) _ _ _ _ (w .1) (w .2) (held-not mark (λ k. k) (at .i) (at .units) (at .count) (test ∙ w .0 .left) (at .inv .3))))
     (c .if1 .came)
 
 returns-2 : tie.Need-returns-2 Inv-loop μ-loop
