@@ -14,7 +14,7 @@ use Rattle.rules.specs.Limits.{relativeScale, mostPanel}
 use Rattle.rules.specs.Tests.{refuse}
 use Rattle.rules.specs.Lists.{sum, products, anyPair}
 use Rattle.rules.specs.Chain.{Chain, held, badRelative, broken, callRefusal, moved, answerBy, afterBy}
-use Rattle.weights.proofs.Tests.{passed, stops}
+use Rattle.rules.proofs.Tests.{refuse-none, refuse-keeps}
 use Rattle.passes.proofs.Lists.{products-bound, length-scaled}
 use Rattle.refusals.proofs.Numbers.{number-is-suc, not-none}
 use Rattle.figures.specs.Steps.{Reckonable}
@@ -32,9 +32,9 @@ module _ (r : Chain) (ps : List ℕ) where
   pub admitted : callRefusal r ps 0 ≡ 0 → Admitted r ps
   unfolding callRefusal
   admitted e =
-      let state = passed (broken r) 18 _ e in
-      let lists = passed (not (eqb (length ps) (r .units))) 8 _ (state .1) in
-      let relatives = passed (anyPair badRelative (held r) ps) 12 0 (lists .1) in
+      let state = refuse-none (broken r) 18 _ e in
+      let lists = refuse-none (not (eqb (length ps) (r .units))) 8 _ (state .1) in
+      let relatives = refuse-none (anyPair badRelative (held r) ps) 12 0 (lists .1) in
       record {
         sound = sound-facts r (state .0);
         long = eqb-true (length ps) (r .units) (not-false _ (lists .0));
@@ -44,17 +44,18 @@ module _ (r : Chain) (ps : List ℕ) where
   pub call-stops : (later : ℕ) (why : Refusal) → numberOf why ≡ callRefusal r ps 0 → callRefusal r ps later ≡ numberOf why
   unfolding callRefusal
   call-stops later why e =
-      stops (broken r) 19 _ _ (not-none why _ e)
-      (λ h. stops (not (eqb (length ps) (r .units))) 9 _ _ h
-      (λ k. stops (anyPair badRelative (held r) ps) 13 _ _ k (λ l. absurd (l refl))))
+      refuse-keeps (broken r) 19 _ _
+      (refuse-keeps (not (eqb (length ps) (r .units))) 9 _ _
+      (refuse-keeps (anyPair badRelative (held r) ps) 13 _ _ (λ l. absurd (l refl))))
+      (not-none why _ e)
       ∙ sym e
 
   pub call-goes : (later : ℕ) → callRefusal r ps 0 ≡ 0 → callRefusal r ps later ≡ later
   unfolding callRefusal refuse
   call-goes later e =
-      let state = passed (broken r) 18 _ e in
-      let lists = passed (not (eqb (length ps) (r .units))) 8 _ (state .1) in
-      let relatives = passed (anyPair badRelative (held r) ps) 12 0 (lists .1) in
+      let state = refuse-none (broken r) 18 _ e in
+      let lists = refuse-none (not (eqb (length ps) (r .units))) 8 _ (state .1) in
+      let relatives = refuse-none (anyPair badRelative (held r) ps) 12 0 (lists .1) in
       simp (state .0, lists .0, relatives .0)
 
 -- the places of an admitted record hold all its units, and its figure can be reckoned

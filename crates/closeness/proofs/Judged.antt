@@ -12,18 +12,8 @@ use Rattle.rules.specs.Limits.{shareScale, relativeScale, lowestRelative, highe
 use Rattle.rules.specs.Tests.{_or_, outside, refuse}
 use Rattle.rules.specs.Lists.{sum, products, scaled, anyPair}
 use Rattle.rules.specs.Chain.{Chain, Call, held, relatives, figureOf, shared, opening, badIndex, badRelative, badWeight, badOpenLists, broken, callRefusal, lateRefusal, refusalOf, openRefusal}
+use Rattle.rules.proofs.Tests.{or-false, refuse-none}
 use Rattle.closeness.proofs.Weights.{Reached}
-
-neither : (a b : Bool) → (a or b) ≡ false → (a ≡ false) × (b ≡ false)
-unfolding _or_
-neither true b e = absurd (true≢false e)
-neither false b e = (refl, e)
-
--- no refusal: this test did not apply, and what comes later refuses nothing
-passed : (test : Bool) (number later : ℕ) → 0 < number → refuse test number later ≡ 0 → (test ≡ false) × (later ≡ 0)
-unfolding refuse
-passed true number later p e = absurd (omega arith)
-passed false number later p e = (refl, e)
 
 -- Of each place: the relative is 0 for an absent unit, whose mark is 0, and at least `low` for a present one.
 pub data Fit (low : ℕ) : List ℕ → List ℕ → Type 0 where
@@ -44,12 +34,12 @@ fit [] [] l e = Fit.none
 fit [] (p ∷ ps) l e = absurd (omega arith)
 fit (mark ∷ marks) [] l e = absurd (omega arith)
 fit (zero ∷ marks) (p ∷ ps) l e =
-    let b : (not (eqb p 0) ≡ false) × (anyPair badRelative marks ps ≡ false) = neither _ _ e in
+    let b : (not (eqb p 0) ≡ false) × (anyPair badRelative marks ps ≡ false) = or-false _ _ e in
     let z : p ≡ 0 = eqb-true p 0 (not-false _ (b .0)) in
     rw z (Fit.absent (fit marks ps (omega arith) (b .1)))
 fit (suc mark ∷ marks) (p ∷ ps) l e =
-    let b : (ltb p lowestRelative or ltb highestRelative p ≡ false) × (anyPair badRelative marks ps ≡ false) = neither _ _ e in
-    Fit.present (ltb-false p lowestRelative (neither _ _ (b .0) .0)) (fit marks ps (omega arith) (b .1))
+    let b : (ltb p lowestRelative or ltb highestRelative p ≡ false) × (anyPair badRelative marks ps ≡ false) = or-false _ _ e in
+    Fit.present (ltb-false p lowestRelative (or-false _ _ (b .0) .0)) (fit marks ps (omega arith) (b .1))
 
 -- the mean relative is at least the lowest
 pub mean-least : {low : ℕ} {vs ps : List ℕ} → Fit low vs ps → low * sum vs ≤ sum (products vs ps)
@@ -66,9 +56,9 @@ reached s [] l Fit.none e = Reached.none
 reached s [] l (Fit.absent f) e = absurd (omega arith)
 reached s [] l (Fit.present low f) e = absurd (omega arith)
 reached s (v ∷ vs) l Fit.none e = absurd (omega arith)
-reached s (v ∷ vs) l (Fit.absent f) e = Reached.absent (reached s vs (omega arith) f (neither _ _ e .1))
+reached s (v ∷ vs) l (Fit.absent f) e = Reached.absent (reached s vs (omega arith) f (or-false _ _ e .1))
 reached s (v ∷ vs) l (Fit.present {p = p} {marks = marks} {ps = ps} low f) e =
-    let b : (ltb (v * p / s) leastWeight ≡ false) × (anyPair badWeight marks (scaled s vs ps) ≡ false) = neither _ _ e in
+    let b : (ltb (v * p / s) leastWeight ≡ false) × (anyPair badWeight marks (scaled s vs ps) ≡ false) = or-false _ _ e in
     Reached.present (ltb-false _ leastWeight (b .0)) (reached s vs (omega arith) f (b .1))
 
 pub reached-length : {b s : ℕ} {vs ps : List ℕ} → Reached b s vs ps → length (scaled s vs ps) ≡ length ps
@@ -96,15 +86,15 @@ record Admitted (r : Chain) (ps : List ℕ) (later : ℕ) : Type 0 where
 weighs : (r : Chain) → broken r ≡ false → 0 < sum (held r)
 unfolding broken
 weighs r e =
-    let n : _ = eqb-false (sum (held r)) 0 (neither _ _ (neither _ _ e .0) .1) in
+    let n : _ = eqb-false (sum (held r)) 0 (or-false _ _ (or-false _ _ e .0) .1) in
     pos-of-ne-zero n
 
 admitted : (r : Chain) (ps : List ℕ) (later : ℕ) → length (held r) ≡ r .units → callRefusal r ps later ≡ 0 → Admitted r ps later
 unfolding callRefusal
 admitted r ps later full e =
-    let p19 : _ = passed _ 19 _ (omega arith) e in
-    let p9 : _ = passed _ 9 _ (omega arith) (p19 .1) in
-    let p13 : _ = passed _ 13 _ (omega arith) (p9 .1) in
+    let p19 : _ = refuse-none _ 18 _ e in
+    let p9 : _ = refuse-none _ 8 _ (p19 .1) in
+    let p13 : _ = refuse-none _ 12 _ (p9 .1) in
     let long : length ps ≡ r .units = eqb-true _ _ (not-false _ (p9 .0)) in
     record { weighted = weighs r (p19 .0); long = long; fits = fit _ _ (long ∙ sym full) (p13 .0); accepts = p13 .1 }
 
@@ -112,9 +102,9 @@ admitted r ps later full e =
 late : (r : Chain) (ps : List ℕ) → lateRefusal r ps ≡ 0 → (lowestIndex ≤ figureOf r ps) × (r .closes < mostCloses)
 unfolding lateRefusal badIndex outside
 late r ps e =
-    let p23 : _ = passed _ 23 _ (omega arith) e in
-    let p24 : _ = passed _ 24 _ (omega arith) (p23 .1) in
-    (ltb-false _ _ (neither _ _ (p23 .0) .0), leb-false _ _ (p24 .0))
+    let p23 : _ = refuse-none _ 22 _ e in
+    let p24 : _ = refuse-none _ 23 _ (p23 .1) in
+    (ltb-false _ _ (or-false _ _ (p23 .0) .0), leb-false _ _ (p24 .0))
 
 accepted-late : (r : Chain) (ps : List ℕ) (later : ℕ) → Admitted r ps later → lateRefusal r ps ≡ 0 → Accepted r ps
 accepted-late r ps later a e =
@@ -126,14 +116,14 @@ unfolding refusalOf
 accepted-call r (Call.quarter ps) full e = let a : _ = admitted r ps _ full e in accepted-late r ps _ a (a .accepts)
 accepted-call r (Call.close ps) full e =
     let a : _ = admitted r ps _ full e in
-    accepted-late r ps _ a (passed _ 22 _ (omega arith) (passed _ 21 _ (omega arith) (a .accepts) .1) .1)
+    accepted-late r ps _ a (refuse-none _ 21 _ (refuse-none _ 20 _ (a .accepts) .1) .1)
 
 -- the new weights of an accepted close
 pub closed-reached : (r : Chain) (ps : List ℕ) → length (held r) ≡ r .units → refusalOf r (Call.close ps) ≡ 0 → Reached leastWeight relativeScale (held r) ps
 unfolding refusalOf
 closed-reached r ps full e =
     let a : _ = admitted r ps _ full e in
-    reached relativeScale (held r) refl (a .fits) (passed _ 21 _ (omega arith) (a .accepts) .0)
+    reached relativeScale (held r) refl (a .fits) (refuse-none _ 20 _ (a .accepts) .0)
 
 -- ---- open
 -- What an accepted open tells: u and v reach the least weight, and the record has a weight for each unit.
@@ -146,20 +136,20 @@ pub record Opened (ws gs rs : List ℕ) (start : ℕ) : Type 0 where
 pub accepted-open : (ws gs rs : List ℕ) (start : ℕ) → openRefusal ws gs rs start ≡ 0 → Opened ws gs rs start
 unfolding openRefusal badOpenLists badIndex outside
 accepted-open ws gs rs start e =
-    let p9 : _ = passed _ 9 _ (omega arith) e in
-    let p10 : _ = passed _ 10 _ (omega arith) (p9 .1) in
-    let p11 : _ = passed _ 11 _ (omega arith) (p10 .1) in
-    let p12 : _ = passed _ 12 _ (omega arith) (p11 .1) in
-    let p13 : _ = passed _ 13 _ (omega arith) (p12 .1) in
-    let p21 : _ = passed _ 21 _ (omega arith) (p13 .1) in
-    let lists : _ = neither _ _ (p9 .0) in
-    let lg : length gs ≡ length ws = eqb-true _ _ (not-false _ (neither _ _ (lists .0) .1)) in
+    let p9 : _ = refuse-none _ 8 _ e in
+    let p10 : _ = refuse-none _ 9 _ (p9 .1) in
+    let p11 : _ = refuse-none _ 10 _ (p10 .1) in
+    let p12 : _ = refuse-none _ 11 _ (p11 .1) in
+    let p13 : _ = refuse-none _ 12 _ (p12 .1) in
+    let p21 : _ = refuse-none _ 20 _ (p13 .1) in
+    let lists : _ = or-false _ _ (p9 .0) in
+    let lg : length gs ≡ length ws = eqb-true _ _ (not-false _ (or-false _ _ (lists .0) .1)) in
     let lr : length rs ≡ length ws = eqb-true _ _ (not-false _ (lists .1)) in
-    let low : _ = neither _ _ (p21 .0) in
+    let low : _ = or-false _ _ (p21 .0) in
     let first : Reached leastWeight shareScale ws gs = reached shareScale ws (sym lg) (itself gs) (low .0) in
     let second : Reached leastWeight relativeScale (shared ws gs) rs = reached relativeScale (shared ws gs) (reached-length first) (fit gs rs (lr ∙ sym lg) (p13 .0)) (low .1) in
     record {
-      started = ltb-false _ _ (neither _ _ (p12 .0) .0);
+      started = ltb-false _ _ (or-false _ _ (p12 .0) .0);
       shares = first;
       updates = second;
       long = reached-length second ∙ lr;

@@ -12,8 +12,8 @@ use Rattle.rules.specs.TakeAll.{Frame, takeAllGroup}
 use Rattle.rules.specs.Draw.{refused, drawn, frameRefusal, drawRefusal, drawAnswer, drawNumbers, drawWeights}
 use Rattle.refusals.specs.Number.{numberOf}
 use Rattle.refusals.specs.declared.Refusal.{Refusal}
-use Rattle.selection.proofs.Logic.{or-on, or-off, or-left, or-right}
-use Rattle.frame.proofs.Refusals.{refuse-none, goes, stops}
+use Rattle.rules.proofs.Tests.{or-on, or-off, or-false, refuse-none}
+use Rattle.frame.proofs.Refusals.{goes, stops}
 use Rattle.refusals.proofs.Numbers.{number-some}
 use Rattle.takeall.proofs.Refusals.{written-refused}
 
@@ -73,4 +73,4 @@ module _ (f : Frame) (z start : ℕ) (panel weights : List ℕ) where
   pub room : drawRefusal f z start panel weights ≡ 0 → (z ≤ length panel) × (z ≤ length weights)
   room e =
       let b = refuse-none (ltb (length panel) z or ltb (length weights) z) 5 0 (sym (buffers-next (frame-accepted e)) ∙ e) in
-      (ltb-false (length panel) z (or-left (ltb (length panel) z) (ltb (length weights) z) (b .0)), ltb-false (length weights) z (or-right (ltb (length panel) z) (ltb (length weights) z) (b .0)))
+      (ltb-false (length panel) z (or-false (ltb (length panel) z) (ltb (length weights) z) (b .0) .0), ltb-false (length weights) z (or-false (ltb (length panel) z) (ltb (length weights) z) (b .0) .1))

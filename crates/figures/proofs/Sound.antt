@@ -7,7 +7,7 @@ use borrow.Author.Tests.{ltb-false, eqb-false}
 use Rattle.rules.specs.Limits.{mostPanel, mostWeight, mostCloses, lowestIndex, highestIndex}
 use Rattle.rules.specs.Lists.{sum, anyPair}
 use Rattle.rules.specs.Chain.{Chain, held, badUnits, badIndex, badWeight, broken}
-use Rattle.weights.proofs.Tests.{or-false, within}
+use Rattle.rules.proofs.Tests.{or-false, within}
 use Rattle.weights.proofs.Units.{units-most}
 
 pub record Sound (r : Chain) : Type 0 where

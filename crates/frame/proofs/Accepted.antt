@@ -9,12 +9,13 @@ use native.Mathlib.Numerals.{add-one}
 use lib.Dec.{eqb, ltb, leb}
 use lib.ListN.{length, getD, drop}
 use borrow.Author.Tests.{ltb-false, leb-false, eqb-true, eqb-false, not-false}
+use Rattle.rules.proofs.Tests.{or-false}
 use Rattle.rules.specs.Limits.{mostFrame, mostTurnover, randomRange, mostPanel}
 use Rattle.rules.specs.Lists.{sum, anyOf, rising}
 use Rattle.rules.specs.Selection.{sumOf, every}
 use Rattle.rules.specs.TakeAll.{Frame, turnover, badCount, badTurnovers, badSize}
 use Rattle.rules.specs.Draw.{badLists, badRandom, frameRefusal}
-use Rattle.frame.proofs.Lists.{or-false, any-none, rising-below, sum-next, sum-end}
+use Rattle.frame.proofs.Lists.{any-none, rising-below, sum-next, sum-end}
 use Rattle.frame.proofs.Refusals.{Passed, passed}
 
 -- a place of a list is at most the list's sum

@@ -10,32 +10,9 @@ use lib.ListN.{length, getD, drop, drop-of-length-le}
 use lib.Seq.{drop-cons}
 use lib.Dec.{ltb}
 use borrow.Author.Tests.{ltb-true, ltb-false, lt-ltb, le-ltb}
+use Rattle.rules.proofs.Tests.{and-left, and-right, or-false}
 use Rattle.rules.specs.Tests.{_or_, _and_}
 use Rattle.rules.specs.Lists.{sum, anyOf, risesFrom, rising}
-
--- ---- the connectives
-pub or-false : (a b : Bool) → a or b ≡ false → (a ≡ false) × (b ≡ false)
-unfolding _or_
-or-false true b e = absurd (false≢true (sym e))
-or-false false b e = (refl, e)
-
-pub or-left : (a b : Bool) → a ≡ true → a or b ≡ true
-unfolding _or_
-or-left a b e = rw e
-
-pub or-right : (a b : Bool) → b ≡ true → a or b ≡ true
-unfolding _or_
-or-right true b e = refl
-or-right false b e = e
-
-pub or-skip : (a b : Bool) → a ≡ false → a or b ≡ b
-unfolding _or_
-or-skip a b e = rw e
-
-and-true : (a b : Bool) → a and b ≡ true → (a ≡ true) × (b ≡ true)
-unfolding _and_
-and-true true b e = (refl, e)
-and-true false b e = absurd (false≢true e)
 
 -- ---- the rest of a list
 module _ (test : ℕ → Bool) (l : List ℕ) (i : ℕ) where
@@ -89,17 +66,16 @@ any-none test (x ∷ xs) e (suc i) h = any-none test xs (or-false (test x) (anyO
 above-all : (x : ℕ) (l : List ℕ) → risesFrom x l ≡ true → (j : ℕ) → j < length l → x < getD l j 0
 unfolding risesFrom
 above-all x [] e j h = absurd (omega arith)
-above-all x (y ∷ ys) e zero h = ltb-true x y (and-true (ltb x y) (risesFrom y ys) e .0)
+above-all x (y ∷ ys) e zero h = ltb-true x y (and-left (ltb x y) (risesFrom y ys) e)
 above-all x (y ∷ ys) e (suc j) h =
-    let both = and-true (ltb x y) (risesFrom y ys) e in
-    let lower : x < y = ltb-true x y (both .0) in
-    let upper : y < getD ys j 0 = above-all y ys (both .1) j (omega arith) in
+    let lower : x < y = ltb-true x y (and-left (ltb x y) (risesFrom y ys) e) in
+    let upper : y < getD ys j 0 = above-all y ys (and-right (ltb x y) (risesFrom y ys) e) j (omega arith) in
     omega arith
 
 rises-rest : (x : ℕ) (l : List ℕ) → risesFrom x l ≡ true → rising l ≡ true
 unfolding rising risesFrom
 rises-rest x [] e = refl
-rises-rest x (y ∷ ys) e = and-true (ltb x y) (risesFrom y ys) e .1
+rises-rest x (y ∷ ys) e = and-right (ltb x y) (risesFrom y ys) e
 
 pub rising-below : (l : List ℕ) → rising l ≡ true → (i j : ℕ) → i < j → j < length l → getD l i 0 < getD l j 0
 unfolding rising

@@ -8,20 +8,7 @@ use Rattle.rules.specs.Tests.{_or_, refuse}
 use Rattle.rules.specs.Lists.{rising, anyOf}
 use Rattle.rules.specs.TakeAll.{Frame, badTurnovers, badSize}
 use Rattle.rules.specs.Draw.{badLists, badRandom, frameRefusal}
-use Rattle.frame.proofs.Lists.{or-false}
-
--- a refusal that is none: its test fails, and nothing later refuses
-pub refuse-none : (test : Bool) (n later : ℕ) → refuse test (suc n) later ≡ 0 → (test ≡ false) × (later ≡ 0)
-unfolding refuse
-refuse-none true n later e = absurd (omega arith)
-refuse-none false n later e = (refl, e)
-
--- what comes later is asked only where nothing refuses before it
-refuse-keeps :
-    (test : Bool) (n a b : ℕ) → ((a ≡ 0 → ⊥) → b ≡ a) → (refuse test (suc n) a ≡ 0 → ⊥) → refuse test (suc n) b ≡ refuse test (suc n) a
-unfolding refuse
-refuse-keeps true n a b keeps some = refl
-refuse-keeps false n a b keeps some = keeps some
+use Rattle.rules.proofs.Tests.{or-false, refuse-none, refuse-keeps}
 
 module _ (f : Frame) (z start later : ℕ) where
   pub lists-refused : badLists f ≡ true → frameRefusal f z start later ≡ 1
@@ -95,7 +82,7 @@ module _ (f : Frame) (z start : ℕ) where
   pub stops : (later : ℕ) → (frameRefusal f z start 0 ≡ 0 → ⊥) → frameRefusal f z start later ≡ frameRefusal f z start 0
   unfolding frameRefusal
   stops later some =
-      refuse-keeps _ 0 _ _
-      (refuse-keeps _ 1 _ _
-      (refuse-keeps _ 2 _ _ (refuse-keeps _ 3 _ _ (refuse-keeps _ 4 _ _ (λ h. absurd (h refl))))))
+      refuse-keeps _ 1 _ _
+      (refuse-keeps _ 2 _ _
+      (refuse-keeps _ 3 _ _ (refuse-keeps _ 4 _ _ (refuse-keeps _ 5 _ _ (λ h. absurd (h refl))))))
       some

@@ -11,9 +11,10 @@ use lib.ListN.{length, getD, drop, set, length-drop}
 use lib.Seq.{getD-drop}
 use lib.Dec.{eqb}
 use borrow.Author.Tests.{eq-eqb, ne-eqb}
+use Rattle.rules.proofs.Tests.{or-off}
 use Rattle.rules.specs.Limits.{mostPanel}
 use Rattle.rules.specs.Lists.{rising, anyOf, elem}
-use Rattle.frame.proofs.Lists.{any-here, any-next, any-end, or-skip, rising-below}
+use Rattle.frame.proofs.Lists.{any-here, any-next, any-end, rising-below}
 use Rattle.members.specs.declared.Places.{Places}
 use Rattle.members.specs.Places.{PlacesOf, inPanel}
 use Rattle.members.proofs.Held.{held, hold-none, hold-skip, hold-not, hold-more}
@@ -37,7 +38,7 @@ unfolding elem anyOf
 elem-low x [] h = refl
 elem-low x (y ∷ ys) h =
     let l : x < y = h 0 (omega arith) in
-    or-skip (eqb x y) (anyOf (eqb x) ys) (ne-eqb x y (λ e. omega arith)) ∙ elem-low x ys (λ k g. h (suc k) (omega arith))
+    or-off (eqb x y) (anyOf (eqb x) ys) (ne-eqb x y (λ e. omega arith)) ∙ elem-low x ys (λ k g. h (suc k) (omega arith))
 
 -- ---- where the pass stands
 pub record Merged (numbers panel : List ℕ) (i j : ℕ) (r : Places) : Type 0 where

@@ -13,8 +13,8 @@ use Rattle.rules.specs.Lists.{rising}
 use Rattle.rules.specs.TakeAll.{Frame}
 use Rattle.rules.specs.Draw.{frameRefusal}
 use Rattle.rules.specs.Rotation.{badOldPanel}
-use Rattle.frame.proofs.Lists.{or-false}
-use Rattle.frame.proofs.Refusals.{refuse-none, goes, stops}
+use Rattle.rules.proofs.Tests.{or-false, refuse-none}
+use Rattle.frame.proofs.Refusals.{goes, stops}
 use Rattle.refusals.specs.declared.Refusal.{Refusal}
 use Rattle.refusals.specs.Number.{numberOf}
 use Rattle.refusals.proofs.Numbers.{number-some}

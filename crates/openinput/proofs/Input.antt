@@ -12,7 +12,7 @@ use Rattle.rules.specs.Limits.{shareScale, mostPanel, mostWeight}
 use Rattle.rules.specs.Tests.{refuse}
 use Rattle.rules.specs.Lists.{sum, anyOf, anyPair}
 use Rattle.rules.specs.Chain.{badUnits, badOpenLists, badBase, badShares, badIndex, badRelative}
-use Rattle.weights.proofs.Tests.{or-false, passed, stops}
+use Rattle.rules.proofs.Tests.{or-false, refuse-none, refuse-keeps}
 use Rattle.weights.proofs.Units.{units-most}
 use Rattle.refusals.proofs.Numbers.{not-none}
 use Rattle.openinput.specs.Input.{inputRefusal}
@@ -45,11 +45,11 @@ module _ (ws gs rs : List ℕ) (start : ℕ) where
   pub input : inputRefusal ws gs rs start 0 ≡ 0 → Input ws gs rs
   unfolding inputRefusal badBase badShares
   input e =
-      let lists = passed (badOpenLists ws gs rs) 8 _ e in
-      let base = passed (badBase ws) 9 _ (lists .1) in
-      let shares = passed (badShares gs) 10 _ (base .1) in
-      let index = passed (badIndex start) 11 _ (shares .1) in
-      let relatives = passed (anyPair badRelative gs rs) 12 0 (index .1) in
+      let lists = refuse-none (badOpenLists ws gs rs) 8 _ e in
+      let base = refuse-none (badBase ws) 9 _ (lists .1) in
+      let shares = refuse-none (badShares gs) 10 _ (base .1) in
+      let index = refuse-none (badIndex start) 11 _ (shares .1) in
+      let relatives = refuse-none (anyPair badRelative gs rs) 12 0 (index .1) in
       record {
         lists = even ws gs rs (lists .0);
         limit = ltb-false mostWeight (sum ws) (or-false (anyOf (λ w. eqb w 0) ws) (ltb mostWeight (sum ws)) (base .0) .1);
@@ -60,19 +60,19 @@ module _ (ws gs rs : List ℕ) (start : ℕ) where
   pub input-stops : (later : ℕ) (why : Refusal) → numberOf why ≡ inputRefusal ws gs rs start 0 → inputRefusal ws gs rs start later ≡ numberOf why
   unfolding inputRefusal
   input-stops later why e =
-      stops (badOpenLists ws gs rs) 9 _ _ (not-none why _ e)
-      (λ h. stops (badBase ws) 10 _ _ h
-      (λ k. stops (badShares gs) 11 _ _ k
-      (λ l. stops (badIndex start) 12 _ _ l
-      (λ m. stops (anyPair badRelative gs rs) 13 _ _ m (λ n. absurd (n refl))))))
+      refuse-keeps (badOpenLists ws gs rs) 9 _ _
+      (refuse-keeps (badBase ws) 10 _ _
+      (refuse-keeps (badShares gs) 11 _ _
+      (refuse-keeps (badIndex start) 12 _ _ (refuse-keeps (anyPair badRelative gs rs) 13 _ _ (λ n. absurd (n refl))))))
+      (not-none why _ e)
       ∙ sym e
 
   pub input-goes : (later : ℕ) → inputRefusal ws gs rs start 0 ≡ 0 → inputRefusal ws gs rs start later ≡ later
   unfolding inputRefusal refuse
   input-goes later e =
-      let lists = passed (badOpenLists ws gs rs) 8 _ e in
-      let base = passed (badBase ws) 9 _ (lists .1) in
-      let shares = passed (badShares gs) 10 _ (base .1) in
-      let index = passed (badIndex start) 11 _ (shares .1) in
-      let relatives = passed (anyPair badRelative gs rs) 12 0 (index .1) in
+      let lists = refuse-none (badOpenLists ws gs rs) 8 _ e in
+      let base = refuse-none (badBase ws) 9 _ (lists .1) in
+      let shares = refuse-none (badShares gs) 10 _ (base .1) in
+      let index = refuse-none (badIndex start) 11 _ (shares .1) in
+      let relatives = refuse-none (anyPair badRelative gs rs) 12 0 (index .1) in
       simp (lists .0, base .0, shares .0, index .0, relatives .0)

@@ -11,7 +11,7 @@ use Rattle.rules.specs.Limits.{shareScale, relativeScale}
 use Rattle.rules.specs.Tests.{_or_}
 use Rattle.rules.specs.Lists.{scaled, anyPair}
 use Rattle.rules.specs.Chain.{badWeight, opening}
-use Rattle.weights.proofs.Tests.{or-holds, or-second, or-next, or-exchange}
+use Rattle.rules.proofs.Tests.{or-on, or-second, or-off, or-exchange}
 use Rattle.passes.proofs.Lists.{drop-step, drop-end}
 use Rattle.openweights.specs.Places.{lowWeights}
 
@@ -64,15 +64,15 @@ module _ (i : ℕ) (ws gs rs : List ℕ) (all : Bool) (left : lowWeights (drop i
   module _ (h : i < length ws) (kg : length gs ≡ length ws) (kr : length rs ≡ length ws) where
     -- a u that is low decides
     pub low-shared : badWeight (getD gs i 0) (sharedOf (getD ws i 0) (getD gs i 0)) ≡ true → true ≡ all
-    low-shared e = sym (or-holds _ _ (or-holds _ _ e)) ∙ low-step h kg kr
+    low-shared e = sym (or-on _ _ (or-on _ _ e)) ∙ low-step h kg kr
 
     -- and so does a v
     pub low-opening : badWeight (getD gs i 0) (openingAt (getD ws i 0) (getD gs i 0) (getD rs i 0)) ≡ true → true ≡ all
-    low-opening e = sym (or-holds _ _ (or-second _ _ e)) ∙ low-step h kg kr
+    low-opening e = sym (or-on _ _ (or-second _ _ e)) ∙ low-step h kg kr
 
     -- with neither, the units after it decide
     pub low-next : badWeight (getD gs i 0) (sharedOf (getD ws i 0) (getD gs i 0)) ≡ false → badWeight (getD gs i 0) (openingAt (getD ws i 0) (getD gs i 0) (getD rs i 0)) ≡ false → lowWeights (drop (i + 1) ws) (drop (i + 1) gs) (drop (i + 1) rs) ≡ all
-    low-next e f = sym (or-next _ _ (or-next _ _ e ∙ f)) ∙ low-step h kg kr
+    low-next e f = sym (or-off _ _ (or-off _ _ e ∙ f)) ∙ low-step h kg kr
 
   pub low-none : length ws ≤ i → length gs ≡ length ws → false ≡ all
   unfolding lowWeights scaled anyPair _or_

@@ -12,7 +12,7 @@ use Rattle.rules.specs.Selection.{count, rank, firsts, listed, every}
 use Rattle.rules.specs.TakeAll.{frame, larger, largest}
 use Rattle.rules.specs.Draw.{keyBelow, sampledBy, drawnBy}
 use Rattle.selection.specs.Ranked.{Ranked}
-use Rattle.selection.proofs.Logic.{or-on, or-off, or-second}
+use Rattle.rules.proofs.Tests.{or-on, or-off, or-second}
 use Rattle.selection.proofs.Sums.{count-yes, count-skip, count-rest, listed-skip, list-store}
 use Rattle.selection.proofs.Places.{held-first, first-held, count-held}
 use Rattle.selection.proofs.TakeAll.{larger-order}

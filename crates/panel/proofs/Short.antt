@@ -10,12 +10,13 @@ use native.Mathlib.Omega.{arith}
 use lib.ListN.{length, getD}
 use lib.Dec.{ltb, leb, eqb}
 use borrow.Author.Tests.{lt-ltb, le-leb}
+use Rattle.rules.proofs.Tests.{and-left, and-right, and-true, and-on, or-on, or-off}
 use Rattle.rules.specs.Limits.{mostTurnover}
 use Rattle.rules.specs.Tests.{_or_, _and_}
 use Rattle.rules.specs.Selection.{count, firsts, listed}
 use Rattle.rules.specs.TakeAll.{turnover, largest}
 use Rattle.rules.specs.Draw.{shifted, shiftedOf, keyNumerator, keyDenominator, fractionBelow, keyBelow, sampledBy}
-use Rattle.selection.proofs.Logic.{lt-or-ge, not-both, and-left, and-right, and-true, and-on, or-on, or-off}
+use Rattle.selection.proofs.Logic.{lt-or-ge, not-both}
 use Rattle.selection.proofs.Sums.{sum-same, count-or}
 use Rattle.selection.proofs.Orders.{by-left, by-right}
 use Rattle.selection.proofs.Listed.{listed-same}

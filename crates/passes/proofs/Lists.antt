@@ -13,7 +13,7 @@ use Rattle.rules.specs.Limits.{lowestRelative, highestRelative}
 use Rattle.rules.specs.Tests.{_or_}
 use Rattle.rules.specs.Lists.{sum, products, scaled, anyOf, anyPair}
 use Rattle.rules.specs.Chain.{badRelative}
-use Rattle.weights.proofs.Tests.{or-holds, or-next, or-false, within}
+use Rattle.rules.proofs.Tests.{or-on, or-off, or-false, within}
 
 -- a turn at i takes the first element of what is left
 pub drop-step : (l : List ℕ) (i : ℕ) → i < length l → drop i l ≡ getD l i 0 ∷ drop (i + 1) l
@@ -47,11 +47,11 @@ module _ (v p : List ℕ) (i : ℕ) where
 module _ (test : ℕ → ℕ → Bool) (v p : List ℕ) (i : ℕ) (all : Bool) (left : anyPair test (drop i v) (drop i p) ≡ all) where
   -- a pair for which the test holds decides
   pub pair-found : i < length v → i < length p → test (getD v i 0) (getD p i 0) ≡ true → true ≡ all
-  pair-found h k e = sym (or-holds _ _ e) ∙ sym (anyPair-step v p i test h k) ∙ left
+  pair-found h k e = sym (or-on _ _ e) ∙ sym (anyPair-step v p i test h k) ∙ left
 
   -- a pair for which it fails leaves the rest
   pub pair-next : i < length v → i < length p → test (getD v i 0) (getD p i 0) ≡ false → anyPair test (drop (i + 1) v) (drop (i + 1) p) ≡ all
-  pair-next h k e = sym (or-next _ _ e) ∙ sym (anyPair-step v p i test h k) ∙ left
+  pair-next h k e = sym (or-off _ _ e) ∙ sym (anyPair-step v p i test h k) ∙ left
 
   -- with nothing left it held for none
   pub pair-none : length v ≤ i → false ≡ all
@@ -65,10 +65,10 @@ module _ (test : ℕ → Bool) (l : List ℕ) (i : ℕ) (all : Bool) (left : any
   anyOf-step h = sym (ap (anyOf test) (drop-step l i h)) ∙ left
 
   pub one-found : i < length l → test (getD l i 0) ≡ true → true ≡ all
-  one-found h e = sym (or-holds _ _ e) ∙ anyOf-step h
+  one-found h e = sym (or-on _ _ e) ∙ anyOf-step h
 
   pub one-next : i < length l → test (getD l i 0) ≡ false → anyOf test (drop (i + 1) l) ≡ all
-  one-next h e = sym (or-next _ _ e) ∙ anyOf-step h
+  one-next h e = sym (or-off _ _ e) ∙ anyOf-step h
 
   pub one-none : length l ≤ i → false ≡ all
   unfolding anyOf

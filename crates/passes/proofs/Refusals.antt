@@ -11,20 +11,21 @@ use Rattle.rules.specs.Tests.{refuse}
 use Rattle.rules.specs.Lists.{sum, anyPair}
 use Rattle.rules.specs.Chain.{badWeight}
 use Rattle.passes.specs.WeightRefusal.{weightRefusal}
-use Rattle.weights.proofs.Tests.{passed, stops}
+use Rattle.rules.proofs.Tests.{refuse-none, refuse-keeps}
 
 -- 21 or 22 stands, whatever is asked later
 pub weight-stops : (marks weights : List ℕ) (later : ℕ) (why : Refusal) → numberOf why ≡ weightRefusal marks weights 0 → weightRefusal marks weights later ≡ numberOf why
 unfolding weightRefusal
 weight-stops marks weights later why e =
-    stops (anyPair badWeight marks weights) 21 _ _ (not-none why _ e)
-    (λ h. stops (ltb mostWeight (sum weights)) 22 _ _ h (λ k. absurd (k refl)))
+    refuse-keeps (anyPair badWeight marks weights) 21 _ _
+    (refuse-keeps (ltb mostWeight (sum weights)) 22 _ _ (λ k. absurd (k refl)))
+    (not-none why _ e)
     ∙ sym e
 
 -- neither applies: what is asked later decides
 pub weight-goes : (marks weights : List ℕ) (later : ℕ) → weightRefusal marks weights 0 ≡ 0 → weightRefusal marks weights later ≡ later
 unfolding weightRefusal refuse
 weight-goes marks weights later e =
-    let low = passed (anyPair badWeight marks weights) 20 _ e in
-    let over = passed (ltb mostWeight (sum weights)) 21 0 (low .1) in
+    let low = refuse-none (anyPair badWeight marks weights) 20 _ e in
+    let over = refuse-none (ltb mostWeight (sum weights)) 21 0 (low .1) in
     simp (low .0, over .0)

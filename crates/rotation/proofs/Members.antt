@@ -1,25 +1,20 @@
 -- A step looks at the members alone: who of them leaves, how many, the first step at which enough do, and the list of leavers are those of
 -- `rules`, which look at the whole frame.
-use mathlib.Core.Path.{_≡_, refl}
-use mathlib.Core.Bool.{Bool, not}
+use mathlib.Core.Path.{_≡_}
+use mathlib.Core.Bool.{not}
 use mathlib.Core.List.{List, []}
-use Prim.Native.Nat.{ℕ, zero, suc}
+use Prim.Native.Nat.{ℕ}
 use lib.ListN.{length, getD}
 use Rattle.rules.specs.Limits.{steps}
-use Rattle.rules.specs.Selection.{count, leastFrom}
+use Rattle.rules.specs.Selection.{count}
 use Rattle.rules.specs.TakeAll.{Frame, Group, frame}
 use Rattle.rules.specs.Draw.{sampledBy, keyBelow}
 use Rattle.rules.specs.Rotation.{member, members, required, startAt, leaves, suffices, leastStep, leavers}
+use Rattle.selection.proofs.Least.{least-same}
 use Rattle.members.specs.declared.Places.{Places}
 use Rattle.members.specs.Places.{Holding, PlacesOf}
 use Rattle.members.proofs.Held.{count-held, listed-all, holding-both}
 use Rattle.leavers.specs.Leaving.{memberLeaves, leaving, enoughLeave, firstStep, inPlaceOrder}
-
--- tests that agree find the same number
-least-same : (p q : ℕ → Bool) (tries from : ℕ) → ((k : ℕ) → p k ≡ q k) → leastFrom p tries from ≡ leastFrom q tries from
-unfolding leastFrom
-least-same p q zero from h = refl
-least-same p q (suc tries) from h = rw (h from, least-same p q tries (suc from) h)
 
 module _ (ns ts rs : List ℕ) (g : Group) (panel : List ℕ) (m : Places) (h : PlacesOf (member (frame ns ts []) g panel) (length ts) m) where
   -- the whole frame; members read no random number of it, keys no unit number

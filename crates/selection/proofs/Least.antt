@@ -49,3 +49,9 @@ least-first p (suc tries) from k l h = go (p from) refl h (eq-or-lt-of-le l) (λ
     go : (b : Bool) → p from ≡ b → k < cond b from (leastFrom p tries (suc from)) → (from ≡ k) ⊎ (from < k) → (from < k → k < leastFrom p tries (suc from) → p k ≡ false) → p k ≡ false
     go true e g s later = absurd (let z : suc k ≤ k = omega arith in omega arith)
     go false e g s later = ⊎-elim (λ q. rw q at e) (λ q. later q g) s
+
+-- tests that agree find the same number
+pub least-same : (p q : ℕ → Bool) (tries from : ℕ) → ((k : ℕ) → p k ≡ q k) → leastFrom p tries from ≡ leastFrom q tries from
+unfolding leastFrom
+least-same p q zero from h = refl
+least-same p q (suc tries) from h = rw (h from, least-same p q tries (suc from) h)

@@ -8,9 +8,10 @@ use native.Mathlib.Nat.{le-refl, le-of-lt}
 use native.Mathlib.Omega.{arith}
 use lib.Dec.{ltb}
 use borrow.Author.Tests.{lt-ltb, le-ltb, ltb-true, ltb-false}
+use Rattle.rules.proofs.Tests.{and-left, and-right, and-true, and-on}
 use Rattle.rules.specs.Tests.{_or_, _and_}
 use Rattle.rules.specs.Selection.{sumOf, count, rank, firsts, byKey, every}
-use Rattle.selection.proofs.Logic.{not-both, and-left, and-right, and-true, and-on}
+use Rattle.selection.proofs.Logic.{not-both}
 use Rattle.selection.proofs.Sums.{sum-le, sum-less}
 
 -- A strict total order on the units below n that have the mark.

@@ -14,7 +14,7 @@ use Rattle.rules.specs.Tests.{_or_}
 use Rattle.rules.specs.Lists.{rising, risesFrom}
 use Rattle.rules.specs.Selection.{count, rank, firsts, listed}
 use Rattle.rules.specs.TakeAll.{largest, takeAllSize}
-use Rattle.selection.proofs.Logic.{and-left, and-right, and-true}
+use Rattle.rules.proofs.Tests.{and-left, and-right, and-true}
 use Rattle.selection.proofs.Sums.{count-or, listed-length}
 use Rattle.selection.proofs.Orders.{Order}
 use Rattle.selection.proofs.Places.{count-firsts}

@@ -5,9 +5,10 @@ use Prim.Native.Nat.{ℕ, _+_, _≤_, _<_}
 use native.Mathlib.Omega.{arith}
 use lib.Dec.{ltb}
 use borrow.Author.Tests.{lt-ltb, le-ltb}
+use Rattle.rules.proofs.Tests.{and-left, and-right, and-true, and-on, and-off}
 use Rattle.rules.specs.Tests.{_and_}
 use Rattle.rules.specs.Selection.{sumOf, count, rank, firsts}
-use Rattle.selection.proofs.Logic.{not-both, and-left, and-right, and-true, and-on, and-off}
+use Rattle.selection.proofs.Logic.{not-both}
 use Rattle.selection.proofs.Sums.{sum-le, sum-less}
 use Rattle.selection.proofs.Orders.{Order}
 

@@ -11,12 +11,13 @@ use native.Mathlib.Numerals.{add-one}
 use lib.ListN.{length, getD}
 use lib.Dec.{ltb, leb}
 use borrow.Author.Tests.{lt-ltb, le-ltb, ltb-true, ltb-false, leb-true, le-leb, lt-leb}
+use Rattle.rules.proofs.Tests.{and-on}
 use Rattle.rules.specs.Tests.{_or_}
 use Rattle.rules.specs.Lists.{sum}
 use Rattle.rules.specs.Selection.{sumOf, count, rank, firsts, byKey, leastFrom, every}
 use Rattle.rules.specs.TakeAll.{turnover, moreTurnover, larger, largest, restWithout, reachesRest, fits, takeAllSize, restTurnover}
 use Rattle.selection.specs.Ranked.{Ranked}
-use Rattle.selection.proofs.Logic.{lt-or-ge, and-on}
+use Rattle.selection.proofs.Logic.{lt-or-ge}
 use Rattle.selection.proofs.Sums.{sum-le, sum-both, sum-list, sum-none, count-every, count-both}
 use Rattle.selection.proofs.Orders.{Order, KeyOrder, key-order, by-not, rank-less, firsts-zero, threshold}
 use Rattle.selection.proofs.Places.{firsts-step, count-held, all-ranked}

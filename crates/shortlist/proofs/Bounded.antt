@@ -10,12 +10,13 @@ use lib.ListN.{length, getD, take}
 use lib.Seq.{getD-take}
 use lib.Dec.{ltb, leb, eqb}
 use borrow.Author.Tests.{lt-ltb, le-ltb, ltb-true, ltb-false, leb-true, leb-false, eqb-true, eqb-false}
+use Rattle.rules.proofs.Tests.{and-left, and-right, and-on}
 use Rattle.rules.specs.Tests.{_or_, _and_}
 use Rattle.rules.specs.Selection.{count, sumOf, listed, byKey}
 use Rattle.rules.specs.Draw.{fractionBelow}
 use Rattle.fraction.proofs.Cross.{by-test, whole-less}
 use Rattle.fraction.proofs.Order.{not-below-transitive}
-use Rattle.selection.proofs.Logic.{not-both, and-left, and-right, and-on, lt-or-ge}
+use Rattle.selection.proofs.Logic.{not-both, lt-or-ge}
 use Rattle.selection.proofs.Sums.{sum-same, listed-length}
 use Rattle.selection.proofs.Listed.{listed-has, has-room, count-again}
 use Rattle.keys.specs.Units.{numOf, denOf, Units}

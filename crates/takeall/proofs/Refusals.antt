@@ -10,7 +10,7 @@ use Rattle.rules.specs.TakeAll.{refused, taken, written, badCount, badTurnovers
 use Rattle.refusals.specs.Number.{numberOf}
 use Rattle.refusals.specs.declared.Refusal.{Refusal}
 use Rattle.refusals.proofs.Numbers.{number-some}
-use Rattle.frame.proofs.Refusals.{refuse-none}
+use Rattle.rules.proofs.Tests.{refuse-none}
 use Rattle.frame.proofs.Accepted.{units}
 use Rattle.largest.specs.Sized.{Sized}
 

@@ -10,7 +10,7 @@ use Rattle.rules.specs.Tests.{_or_, _and_}
 use Rattle.rules.specs.Selection.{rank, firsts, byKey}
 use Rattle.rules.specs.TakeAll.{largest}
 use Rattle.rules.specs.Draw.{fractionBelow, sampledBy}
-use Rattle.selection.proofs.Logic.{and-on}
+use Rattle.rules.proofs.Tests.{and-on}
 use Rattle.selection.proofs.Orders.{threshold}
 use Rattle.group.specs.declared.Group.{Group}
 use Rattle.group.specs.Group.{rulesGroup}

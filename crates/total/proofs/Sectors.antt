@@ -12,7 +12,7 @@ use Rattle.rules.specs.Limits.{mostSectors, sectorScale, lowestIndex, highestIn
 use Rattle.rules.specs.Lists.{sum, products, anyOf}
 use Rattle.rules.specs.Chain.{badIndex}
 use Rattle.rules.specs.Total.{badSectors}
-use Rattle.weights.proofs.Tests.{or-false, within}
+use Rattle.rules.proofs.Tests.{or-false, within}
 
 -- what sectors that are not refused have
 pub record Sound (shares indices : List ℕ) : Type 0 where

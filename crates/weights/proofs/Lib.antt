@@ -1,3 +1,3 @@
-pub mod Tests
+pub mod Capped
 pub mod Units
 pub mod Marks

@@ -6,7 +6,7 @@ use lib.Dec.{ltb, eqb}
 use borrow.Author.Tests.{ltb-false}
 use Rattle.rules.specs.Limits.{mostPanel}
 use Rattle.rules.specs.Chain.{badUnits}
-use Rattle.weights.proofs.Tests.{or-false}
+use Rattle.rules.proofs.Tests.{or-false}
 
 pub units-most : (n : ℕ) → badUnits n ≡ false → n ≤ mostPanel
 unfolding badUnits

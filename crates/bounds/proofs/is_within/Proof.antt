@@ -3,7 +3,7 @@ use native.Mathlib.Omega.{arith}
 use Prim.Native.Nat.{ℕ, _*_, _/_}
 use mathlib.Core.Bool.{Bool, true, false, not}
 use mathlib.Core.Path.{_≡_, refl, sym, ap, _∙_}
-use Rattle.selection.proofs.Logic.{and-on, and-off}
+use Rattle.rules.proofs.Tests.{and-on, and-off}
 use Rattle.bounds.specs.Bound.{mostWord, near, partOf, passes, within}
 use Rattle.bounds.proofs.Terms.{not-true, not-false, near-is, part-is, reach-low}
 use borrow.Author.Needs.{needs}

@@ -8,7 +8,7 @@ use borrow.Author.Tests.{lt-ltb, le-ltb, eq-eqb, ne-eqb}
 use Rattle.rules.specs.Limits.{mostWeight}
 use Rattle.rules.specs.Tests.{_or_}
 use Rattle.rules.specs.Chain.{held, broken}
-use Rattle.weights.proofs.Tests.{cut-over, cut-zero}
+use Rattle.weights.proofs.Capped.{cut-over, cut-zero}
 use Rattle.weights.proofs.Units.{units-most}
 use borrow.Author.Needs.{needs}
 use Rattle.figures.proofs.is_broken.Statement.{statement}

@@ -5,17 +5,17 @@ use lib.ListN.{length}
 use borrow.Author.Tests.{eq-eqb, ne-eqb}
 use Rattle.rules.specs.Limits.{mostFrame}
 use Rattle.rules.specs.TakeAll.{badCount}
-use Rattle.frame.proofs.Lists.{or-left, or-skip}
+use Rattle.rules.proofs.Tests.{or-on, or-off}
 use Rattle.frame.proofs.bad_count.Statement.{statement}
 use Rattle.frame.proofs.bad_count.Tie as tie
 
 returns : tie.Need-returns
 unfolding badCount
-returns c = sym (or-left _ _ (eq-eqb _ _ (c .if1 .taken)))
+returns c = sym (or-on _ _ (eq-eqb _ _ (c .if1 .taken)))
 
 returns-2 : tie.Need-returns-2
 unfolding badCount
-returns-2 c = sym (or-skip _ _ (ne-eqb _ _ (c .if1 .left)))
+returns-2 c = sym (or-off _ _ (ne-eqb _ _ (c .if1 .left)))
 
 pub bad-count-spec : {M : Type 1} → statement M
 bad-count-spec = tie.close (tie.spec returns returns-2)

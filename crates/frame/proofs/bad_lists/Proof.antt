@@ -4,17 +4,17 @@ use mathlib.Core.Bool.{not}
 use borrow.Author.Needs.{needs}
 use borrow.Author.Tests.{eq-eqb, ne-eqb}
 use Rattle.rules.specs.Draw.{badLists}
-use Rattle.frame.proofs.Lists.{or-left, or-right, or-skip}
+use Rattle.rules.proofs.Tests.{or-on, or-second, or-off}
 use Rattle.frame.proofs.bad_lists.Statement.{statement}
 use Rattle.frame.proofs.bad_lists.Tie as tie
 
 returns : tie.Need-returns
 unfolding badLists
-returns c = sym (or-left _ _ (or-left _ _ (ap not (ne-eqb _ _ (c .if1 .taken)))))
+returns c = sym (or-on _ _ (or-on _ _ (ap not (ne-eqb _ _ (c .if1 .taken)))))
 
 returns-2 : tie.Need-returns-2
 unfolding badLists
-returns-2 c = sym (or-left _ _ (or-right _ _ (ap not (ne-eqb _ _ (c .if2 .taken)))))
+returns-2 c = sym (or-on _ _ (or-second _ _ (ap not (ne-eqb _ _ (c .if2 .taken)))))
 
 bad-count-requires : tie.Need-bad-count-requires
 bad-count-requires c κs = search needs
@@ -23,7 +23,7 @@ returns-3 : tie.Need-returns-3
 unfolding badLists
 returns-3 c =
     c .bad-count .ensures
-    ∙ sym (or-skip _ _ (or-skip _ _ (ap not (eq-eqb _ _ (c .before .before .if1 .left))) ∙ ap not (eq-eqb _ _ (c .before .if2 .left))))
+    ∙ sym (or-off _ _ (or-off _ _ (ap not (eq-eqb _ _ (c .before .before .if1 .left))) ∙ ap not (eq-eqb _ _ (c .before .if2 .left))))
 
 pub bad-lists-spec : {M : Type 1} → statement M
 bad-lists-spec = tie.close (tie.spec returns returns-2 bad-count-requires returns-3)

@@ -9,10 +9,11 @@ use lib.Dec.{eqb}
 use lib.ListN.{length, drop}
 use borrow.Author.Needs.{needs}
 use borrow.Author.Tests.{eq-eqb, ne-eqb, lt-ltb, le-ltb}
+use Rattle.rules.proofs.Tests.{or-on, or-second, or-off}
 use Rattle.rules.specs.Limits.{mostTurnover}
 use Rattle.rules.specs.Lists.{sum, anyOf}
 use Rattle.rules.specs.TakeAll.{badTurnovers}
-use Rattle.frame.proofs.Lists.{or-left, or-right, or-skip, any-here, any-next, any-end, sum-next, sum-end}
+use Rattle.frame.proofs.Lists.{any-here, any-next, any-end, sum-next, sum-end}
 use Rattle.frame.proofs.bad_turnovers.Statement.{statement}
 use Rattle.frame.proofs.bad_turnovers.Tie as tie
 
@@ -22,15 +23,15 @@ isZero t = eqb t 0
 module _ (ts : List ℕ) where
   zero-bad : anyOf isZero ts ≡ true → badTurnovers ts ≡ true
   unfolding badTurnovers
-  zero-bad e = or-left _ _ e
+  zero-bad e = or-on _ _ e
 
   over-bad : mostTurnover < sum ts → badTurnovers ts ≡ true
   unfolding badTurnovers
-  over-bad h = or-right _ _ (lt-ltb _ _ h)
+  over-bad h = or-second _ _ (lt-ltb _ _ h)
 
   none-bad : anyOf isZero ts ≡ false → sum ts ≤ mostTurnover → badTurnovers ts ≡ false
   unfolding badTurnovers
-  none-bad e h = or-skip _ _ e ∙ le-ltb _ _ h
+  none-bad e h = or-off _ _ e ∙ le-ltb _ _ h
 
 abbrev Inv-loop : tie.InvT-loop
 Inv-loop turnovers total₀ i₀ total i =

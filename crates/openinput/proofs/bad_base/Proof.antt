@@ -8,7 +8,7 @@ use borrow.Author.Tests.{lt-ltb, le-ltb, eq-eqb, ne-eqb}
 use Rattle.rules.specs.Limits.{mostWeight}
 use Rattle.rules.specs.Lists.{sum, anyOf}
 use Rattle.rules.specs.Chain.{badBase}
-use Rattle.weights.proofs.Tests.{or-holds, or-second, or-next}
+use Rattle.rules.proofs.Tests.{or-on, or-second, or-off}
 use Rattle.passes.proofs.Lists.{sum-step, sum-end, one-found, one-next, one-none}
 use Rattle.openinput.proofs.bad_base.Statement.{statement}
 use Rattle.openinput.proofs.bad_base.Tie as tie
@@ -34,7 +34,7 @@ returns c =
     let l = c .before .before .before .loop in
     let w = c .before .before .before .before .args .w .now in
     let i = l .i in
-    sym (or-holds _ _ (sym (one-found (λ x. eqb x 0) w i _ (l .inv .3) (c .before .before .loop-test .taken) (eq-eqb _ _ (c .if1 .taken)))))
+    sym (or-on _ _ (sym (one-found (λ x. eqb x 0) w i _ (l .inv .3) (c .before .before .loop-test .taken) (eq-eqb _ _ (c .if1 .taken)))))
 
 sub-if2 : tie.Need-sub-if2 Inv-loop μ-loop
 sub-if2 c = omega arith
@@ -73,7 +73,7 @@ returns-3 c =
     let w = c .before .before .args .w .now in
     let i = l .i in
     let h : sum w ≤ mostWeight = omega (arith, sum-end w i (c .loop-test .left)) in
-    sym (or-next _ _ (sym (one-none (λ x. eqb x 0) w i _ (l .inv .3) (c .loop-test .left))) ∙ le-ltb mostWeight (sum w) h)
+    sym (or-off _ _ (sym (one-none (λ x. eqb x 0) w i _ (l .inv .3) (c .loop-test .left))) ∙ le-ltb mostWeight (sum w) h)
 
 pub bad-base-spec : {M : Type 1} → statement M
 bad-base-spec =

@@ -1,7 +1,7 @@
 -- `bad_lists` asks the three tests of 9 one after the other.
 use mathlib.Core.Bool.{not}
 use mathlib.Core.Path.{sym, ap, _∙_}
-use Rattle.weights.proofs.Tests.{or-next}
+use Rattle.rules.proofs.Tests.{or-off}
 use borrow.Author.Tests.{eq-eqb, ne-eqb}
 use Rattle.rules.specs.Tests.{_or_}
 use Rattle.rules.specs.Chain.{badOpenLists}
@@ -24,8 +24,8 @@ returns-3 : tie.Need-returns-3
 unfolding badOpenLists
 returns-3 c =
     sym
-    (or-next _ _
-    (or-next _ _ (sym (c .before .before .bad-units .ensures) ∙ c .before .if1 .left) ∙ ap not (eq-eqb _ _ (c .if2 .left))))
+    (or-off _ _
+    (or-off _ _ (sym (c .before .before .bad-units .ensures) ∙ c .before .if1 .left) ∙ ap not (eq-eqb _ _ (c .if2 .left))))
 
 pub bad-lists-spec : {M : Type 1} → statement M
 bad-lists-spec = tie.close (tie.spec bad-units-requires returns returns-2 returns-3)

@@ -8,7 +8,7 @@ use borrow.Author.Tests.{lt-ltb, le-ltb}
 use Rattle.rules.specs.Limits.{shareScale}
 use Rattle.rules.specs.Lists.{sum, anyOf}
 use Rattle.rules.specs.Chain.{badShares}
-use Rattle.weights.proofs.Tests.{or-holds, or-next}
+use Rattle.rules.proofs.Tests.{or-on, or-off}
 use Rattle.passes.proofs.Lists.{sum-step, sum-end, one-found, one-next, one-none}
 use Rattle.openinput.proofs.bad_shares.Statement.{statement}
 use Rattle.openinput.proofs.bad_shares.Tie as tie
@@ -37,7 +37,7 @@ returns c =
     let l = c .before .before .before .loop in
     let g = c .before .before .before .before .args .g .now in
     let i = l .i in
-    sym (or-holds _ _ (sym (one-found (λ x. ltb shareScale x) g i _ (l .inv .3) (c .before .before .loop-test .taken) (lt-ltb _ _ (c .if1 .taken)))))
+    sym (or-on _ _ (sym (one-found (λ x. ltb shareScale x) g i _ (l .inv .3) (c .before .before .loop-test .taken) (lt-ltb _ _ (c .if1 .taken)))))
 
 add-total : tie.Need-add-total Inv-loop μ-loop
 add-total c = omega arith
@@ -65,7 +65,7 @@ returns-2 c =
     let i = l .i in
     let h : l .total ≡ sum g = omega (arith, sum-end g i (c .loop-test .left)) in
     ap (λ (x : ℕ). eqb x 0) h
-    ∙ sym (or-next _ _ (sym (one-none (λ x. ltb shareScale x) g i _ (l .inv .3) (c .loop-test .left))))
+    ∙ sym (or-off _ _ (sym (one-none (λ x. ltb shareScale x) g i _ (l .inv .3) (c .loop-test .left))))
 
 pub bad-shares-spec : {M : Type 1} → statement M
 bad-shares-spec =

@@ -7,7 +7,7 @@ use borrow.Author.Tests.{lt-ltb, le-ltb}
 use Rattle.rules.specs.Limits.{mostWeight}
 use Rattle.rules.specs.Tests.{refuse}
 use Rattle.rules.specs.Lists.{sum}
-use Rattle.weights.proofs.Tests.{cut-over}
+use Rattle.weights.proofs.Capped.{cut-over}
 use Rattle.openweights.specs.Places.{placesRefusal}
 use borrow.Author.Needs.{needs}
 use Rattle.openweights.proofs.judge_places.Statement.{statement}

@@ -4,7 +4,7 @@ use borrow.Author.Tests.{lt-ltb, le-ltb}
 use Rattle.rules.specs.Limits.{mostWeight}
 use Rattle.rules.specs.Tests.{refuse}
 use Rattle.passes.specs.WeightRefusal.{weightRefusal}
-use Rattle.weights.proofs.Tests.{cut-over}
+use Rattle.weights.proofs.Capped.{cut-over}
 use borrow.Author.Needs.{needs}
 use Rattle.passes.proofs.judge_weights.Statement.{statement}
 use Rattle.passes.proofs.judge_weights.Tie as tie
