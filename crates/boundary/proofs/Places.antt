@@ -6,7 +6,7 @@ use native.Mathlib.Omega.{arith}
 use lib.ListN.{length, drop, set}
 use Rattle.rules.specs.Chain.{Chain, Opening, openBy}
 use Rattle.boundary.specs.Record.{recordPlaces, recordList, laidBy}
-use borrow.Rule.Slice.PartMut.{putMid, postOf}
+use borrow.Rule.Slice.PartMut.{putMid}
 
 pub laid : (e w : List ℕ) (a b c : ℕ) → 3 ≤ length e → putMid 3 100 (set (set (set e 0 a) 1 b) 2 c) w ≡ a ∷ b ∷ c ∷ (w ++ drop 103 e)
 laid [] w a b c h = absurd (omega arith)

@@ -3,7 +3,7 @@ use chain::Chain;
 ghost use mathlib.Core.Path.{_≡_};
 ghost use mathlib.Core.List.{_++_};
 ghost use Prim.Native.Nat.{_≤_};
-ghost use lib.ListN.{length, take, drop};
+ghost use lib.ListN.{length, drop};
 ghost use Rattle.chain.specs.Record.{recordOf};
 ghost use Rattle.boundary.specs.Record.{recordPlaces, recordIn, recordList};
 

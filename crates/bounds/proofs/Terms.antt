@@ -1,10 +1,10 @@
 -- What is asked of a unit, in the terms of its key as the code holds them.
 use Prim.Native.Nat.{ℕ, _*_, _/_, _-_, _≤_, _<_}
 use mathlib.Core.Bool.{Bool, true, false, not}
-use mathlib.Core.Path.{_≡_, refl, sym, ap, ap₂, _∙_, subst}
+use mathlib.Core.Path.{_≡_, refl, sym, ap, ap₂, subst}
 use mathlib.Core.List.{List}
 use native.Mathlib.Omega.{arith}
-use native.Mathlib.Nat.{mul-le-mul, mul-zero}
+use native.Mathlib.Nat.{mul-le-mul}
 use lib.ListN.{length, getD}
 use lib.Dec.{ltb, leb}
 use borrow.Author.Tests.{ltb-true, ltb-false}
@@ -13,7 +13,7 @@ use Rattle.rules.specs.TakeAll.{turnover}
 use Rattle.rules.specs.Draw.{fractionBelow, keyDenominator, shifted}
 use Rattle.fraction.specs.declared.Fraction.{Fraction}
 use Rattle.fraction.proofs.Cross.{by-test}
-use Rattle.keys.specs.Units.{numOf, denOf, Units, UnitKey}
+use Rattle.keys.specs.Units.{numOf, denOf, UnitKey}
 use Rattle.bounds.specs.Bound.{keyLess, near, partOf, Reach}
 
 pub not-true : (b : Bool) → not b ≡ true → b ≡ false

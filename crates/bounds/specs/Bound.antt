@@ -1,7 +1,7 @@
 -- A bound that parts the units with the smallest keys from the others by one number a unit: the whole part of the key at a scale. Units are on
 -- the short list where their key is at most `reach`; those alone are looked at closely.
 use Prim.Native.Nat.{ℕ, _*_, _/_, _≤_, _<_}
-use mathlib.Core.Bool.{Bool, true, false}
+use mathlib.Core.Bool.{Bool, false}
 use mathlib.Core.Path.{_≡_}
 use mathlib.Core.List.{List}
 use lib.ListN.{length, getD}

@@ -1,7 +1,7 @@
 -- What an accepted open and an accepted call tell: the tests of document 01 that did not refuse, as facts about the numbers.
 use mathlib.Core.Path.{_≡_, refl, ap, sym, _∙_}
 use Prim.Native.Nat.{ℕ, zero, suc, _*_, _/_, _≤_, _<_}
-use mathlib.Core.Bool.{Bool, true, false, not, true≢false}
+use mathlib.Core.Bool.{false, not}
 use mathlib.Core.List.{List, [], _∷_}
 use native.Mathlib.Nat.{mul-le-mul-left, pos-of-ne-zero}
 use native.Mathlib.Omega.{arith}
@@ -9,7 +9,7 @@ use borrow.Author.Tests.{ltb-false, leb-false, eqb-true, eqb-false, not-false}
 use lib.Dec.{ltb, eqb}
 use lib.ListN.{length}
 use Rattle.rules.specs.Limits.{shareScale, relativeScale, lowestRelative, highestRelative, leastWeight, lowestIndex, mostCloses}
-use Rattle.rules.specs.Tests.{_or_, outside, refuse}
+use Rattle.rules.specs.Tests.{_or_, outside}
 use Rattle.rules.specs.Lists.{sum, products, scaled, anyPair}
 use Rattle.rules.specs.Chain.{Chain, Call, held, relatives, figureOf, shared, opening, badIndex, badRelative, badWeight, badOpenLists, broken, callRefusal, lateRefusal, refusalOf, openRefusal}
 use Rattle.rules.proofs.Tests.{or-false, refuse-none}

@@ -1,19 +1,19 @@
 -- Demand 3 for the code: whatever quarter and close calls follow an open that the code accepts, refused ones among them, every figure
 -- that the code answers is within the bound of the exact direct index.
 use mathlib.Core.Path.{_≡_, sym, ap, _∙_}
-use mathlib.Core.List.{List, [], _∷_}
+use mathlib.Core.List.{List}
 use Prim.Native.Nat.{ℕ}
 use Rattle.rules.specs.Chain as rules
 use Rattle.rules.specs.Direct.{directOpen, AllWithin}
-use Rattle.chain.specs.Record.{recordOf, answerFrom}
+use Rattle.chain.specs.Record.{recordOf}
 use Rattle.chain.specs.declared.Chain.{Chain}
 use Rattle.chain.specs.declared.Answer.{Answer}
 use Rattle.opening.specs.Opened.{openingOf, openingBy}
 use Rattle.opening.specs.declared.Opening.{Opening}
 use Rattle.opening.specs.declared.Opened.{Opened}
-use Rattle.closeness.specs.Trace.{Met, Trace}
+use Rattle.closeness.specs.Trace.{Trace}
 use Rattle.closeness.proofs.Demand3.{demand3-trace}
-use Rattle.demand3.specs.Calls.{Promised, Calls, answersFrom}
+use Rattle.demand3.specs.Calls.{Calls, answersFrom}
 
 -- calls of the code are a trace of the definitions
 pub trace : {c : Chain} {calls : List rules.Call} {given : List Answer} → Calls c calls given → Trace (recordOf c) calls (answersFrom given)

@@ -9,7 +9,7 @@ ghost use Prim.Native.Nat.{_+_, _≤_};
 ghost use lib.ListN.{length, getD, drop};
 ghost use Rattle.rules.specs.Selection.{count, listed};
 ghost use Rattle.rules.specs.TakeAll.{frame, baseWeight};
-ghost use Rattle.rules.specs.Draw.{drawnBy, frameRefusal, drawRefusal, drawAnswer, drawNumbers, drawWeights};
+ghost use Rattle.rules.specs.Draw.{drawnBy, drawRefusal, drawAnswer, drawNumbers, drawWeights};
 ghost use Rattle.refusals.specs.Number.{verdictOf};
 ghost use Rattle.largest.specs.Sized.{Sized};
 ghost use Rattle.group.specs.Group.{IsGroup, rulesGroup};

@@ -1,6 +1,6 @@
 -- How whole parts and remainders decide `fractionBelow`, the comparison by cross multiplication.
 -- Each law multiplies `x / y * y + x % y ≡ x` out by the other denominator.
-use Prim.Native.Nat.{ℕ, _+_, _*_, _/_, _%_, _≤_, _<_}
+use Prim.Native.Nat.{ℕ, _+_, _*_, _/_, _%_, _<_}
 use mathlib.Core.Bool.{Bool, true, false}
 use mathlib.Core.Path.{_≡_, refl, sym, ap, _∙_}
 use native.Mathlib.Nat.{mul-zero, mul-pos, pos-of-ne-zero, mul-lt-mul-of-pos-right, mul-le-mul-right, div-lt-iff-lt-mul, div-mul-le-self, div-add-mod', lt-of-mul-lt-mul-right}

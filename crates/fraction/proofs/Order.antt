@@ -1,12 +1,11 @@
 -- `fractionBelow` orders fractions strictly: of a fraction and itself neither is below; and, for positive denominators,
 -- both "below" and "not below" carry over a third fraction. Shown by multiplying the cross products by the third denominator.
-use Prim.Native.Nat.{ℕ, _*_, _≤_, _<_}
-use mathlib.Core.Bool.{Bool, true, false}
-use mathlib.Core.Path.{_≡_, refl}
+use Prim.Native.Nat.{ℕ, _*_, _<_}
+use mathlib.Core.Bool.{true, false}
+use mathlib.Core.Path.{_≡_}
 use native.Mathlib.Nat.{mul-lt-mul-of-pos-right, mul-le-mul-right, lt-of-mul-lt-mul-right, le-of-mul-le-mul-right}
 use native.Mathlib.Omega.{arith}
 use borrow.Author.Tests.{ltb-true, ltb-false, lt-ltb, le-ltb}
-use lib.Dec.{ltb}
 use Rattle.rules.specs.Draw.{fractionBelow}
 
 -- a fraction is not below itself

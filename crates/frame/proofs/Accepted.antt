@@ -1,22 +1,22 @@
 -- What is known of a frame that no test refuses, as facts on numbers: `Units` of the turnovers and z alone (take-all reads no more),
 -- `Accepted` of the whole frame and the start.
 use Prim.Native.Nat.{ℕ, zero, suc, _+_, _≤_, _<_}
-use mathlib.Core.Bool.{Bool, true, false}
-use mathlib.Core.Path.{_≡_, refl, sym, ap, _∙_}
+use mathlib.Core.Bool.{false}
+use mathlib.Core.Path.{_≡_}
 use mathlib.Core.List.{List, [], _∷_}
 use native.Mathlib.Omega.{arith}
 use native.Mathlib.Numerals.{add-one}
-use lib.Dec.{eqb, ltb, leb}
+use lib.Dec.{eqb}
 use lib.ListN.{length, getD, drop}
 use borrow.Author.Tests.{ltb-false, leb-false, eqb-true, eqb-false, not-false}
 use Rattle.rules.proofs.Tests.{or-false}
 use Rattle.rules.specs.Limits.{mostFrame, mostTurnover, randomRange, mostPanel}
-use Rattle.rules.specs.Lists.{sum, anyOf, rising}
+use Rattle.rules.specs.Lists.{sum}
 use Rattle.rules.specs.Selection.{sumOf, every}
 use Rattle.rules.specs.TakeAll.{Frame, turnover, badCount, badTurnovers, badSize}
 use Rattle.rules.specs.Draw.{badLists, badRandom, frameRefusal}
 use Rattle.frame.proofs.Lists.{any-none, rising-below, sum-next, sum-end}
-use Rattle.frame.proofs.Refusals.{Passed, passed}
+use Rattle.frame.proofs.Refusals.{passed}
 
 -- a place of a list is at most the list's sum
 pub place-within : (l : List ℕ) (i : ℕ) → getD l i 0 ≤ sum l

@@ -1,15 +1,15 @@
 -- What one pass over a list needs of `anyOf`, `sum` and `rising`: the rest of the list from place i on, one place at a time;
 -- and what the whole test says of each place.
 use Prim.Native.Nat.{ℕ, zero, suc, _+_, _≤_, _<_}
-use mathlib.Core.Bool.{Bool, true, false, false≢true}
-use mathlib.Core.Path.{_≡_, refl, sym, ap, _∙_}
+use mathlib.Core.Bool.{Bool, true, false}
+use mathlib.Core.Path.{_≡_, refl}
 use mathlib.Core.List.{List, [], _∷_}
 use native.Mathlib.Omega.{arith}
 use native.Mathlib.Numerals.{add-one}
 use lib.ListN.{length, getD, drop, drop-of-length-le}
 use lib.Seq.{drop-cons}
 use lib.Dec.{ltb}
-use borrow.Author.Tests.{ltb-true, ltb-false, lt-ltb, le-ltb}
+use borrow.Author.Tests.{ltb-true, lt-ltb, le-ltb}
 use Rattle.rules.proofs.Tests.{and-left, and-right, or-false}
 use Rattle.rules.specs.Tests.{_or_, _and_}
 use Rattle.rules.specs.Lists.{sum, anyOf, risesFrom, rising}

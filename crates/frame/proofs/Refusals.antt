@@ -1,8 +1,7 @@
 -- Which of refusals 1 to 5 `frameRefusal` gives, test by test, and how it goes on to what comes later.
-use Prim.Native.Nat.{ℕ, zero, suc}
-use mathlib.Core.Bool.{Bool, true, false, not}
+use Prim.Native.Nat.{ℕ}
+use mathlib.Core.Bool.{true, false}
 use mathlib.Core.Path.{_≡_, refl}
-use native.Mathlib.Omega.{arith}
 use borrow.Author.Tests.{not-false}
 use Rattle.rules.specs.Tests.{_or_, refuse}
 use Rattle.rules.specs.Lists.{rising, anyOf}

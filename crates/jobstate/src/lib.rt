@@ -4,7 +4,6 @@ use chain::Chain;
 use openinput::SHARE_SCALE;
 use refusals::Refusal;
 ghost use mathlib.Core.Path.{_≡_};
-ghost use mathlib.Core.List.{List};
 ghost use Prim.Native.Nat.{min};
 ghost use lib.ListN.{replicate, take};
 ghost use Rattle.rules.specs.Limits.{mostHeld, mostPanel};

@@ -1,17 +1,16 @@
 -- The keys of an accepted frame, under any start: each has a positive denominator, so that comparing keys, and of equal keys the
 -- unit numbers, orders the units strictly and totally. This is what the laws of selection ask for.
-use Prim.Native.Nat.{ℕ, _+_, _-_, _*_, _≤_, _<_}
-use mathlib.Core.Bool.{Bool, true, false}
-use mathlib.Core.Path.{_≡_, refl, sym, _∙_}
+use Prim.Native.Nat.{ℕ, _-_, _<_}
+use mathlib.Core.Bool.{Bool}
 use native.Mathlib.Omega.{arith}
 use native.Mathlib.Nat.{mul-pos}
 use lib.Dec.{ltb}
 use lib.ListN.{length, getD}
-use borrow.Author.Tests.{ltb-true, lt-ltb, le-ltb}
+use borrow.Author.Tests.{ltb-true}
 use Rattle.rules.specs.Limits.{randomRange}
 use Rattle.rules.specs.Selection.{byKey, every}
 use Rattle.rules.specs.TakeAll.{Frame, Group, turnover}
-use Rattle.rules.specs.Draw.{shifted, shiftedOf, keyNumerator, keyDenominator, keyBelow, fractionBelow}
+use Rattle.rules.specs.Draw.{shifted, shiftedOf, keyDenominator, keyBelow}
 use Rattle.selection.proofs.Logic.{not-both}
 use Rattle.selection.proofs.Orders.{Order, KeyOrder, key-order, order-among}
 use Rattle.fraction.proofs.Cross.{by-test}

@@ -1,18 +1,15 @@
 -- Units that are held as a list of places: one more at the end, none for units that lack the mark; and the second look, at the
 -- listed units alone, which lists of them what a look at the whole frame for both marks would list.
-use mathlib.Core.Path.{_≡_, refl, sym, ap, _∙_, subst}
-use mathlib.Core.Logic.{⊎-elim}
-use mathlib.Core.Bool.{Bool, true, false, cond}
-use mathlib.Core.List.{List, [], _∷_, _++_, append-nil}
-use Prim.Native.Nat.{ℕ, zero, suc, _+_, _≤_, _<_}
-use native.Mathlib.Nat.{not-suc-le-zero}
+use mathlib.Core.Path.{_≡_, refl, sym, ap, _∙_}
+use mathlib.Core.Bool.{Bool, true, false}
+use mathlib.Core.List.{List}
+use Prim.Native.Nat.{ℕ, _+_, _≤_, _<_}
 use native.Mathlib.Omega.{arith}
-use native.Mathlib.Numerals.{add-one}
-use lib.ListN.{length, getD, take, set, length-set, length-take, length-append, List·getD-append}
-use lib.Seq.{take-suc-set, take-take, take-at, getD-at, getD-take}
+use lib.ListN.{length, getD, take, set, length-set, length-take}
+use lib.Seq.{getD-take}
 use Rattle.rules.specs.Limits.{mostPanel}
 use Rattle.rules.specs.Tests.{_and_}
-use Rattle.rules.specs.Selection.{count, listed, sumOf, every}
+use Rattle.rules.specs.Selection.{count, listed, every}
 use Rattle.selection.proofs.Sums.{listed-length}
 use Rattle.selection.specs.Held.{Held}
 use Rattle.selection.proofs.Held.{held-none, held-skip, held-not, held-more, held-same}

@@ -1,6 +1,6 @@
 -- The bound of a short list draws the panel: where exactly q + n units are within it, those are the take-all units and the n sampled ones. Take-all units
 -- have the gap 0 and so the part 0, which is below the bound's; of the others, who is within comes before who is not.
-use mathlib.Core.Path.{_≡_, refl, sym, ap, ap₂, _∙_, subst}
+use mathlib.Core.Path.{_≡_, refl, sym, ap, _∙_, subst}
 use mathlib.Core.Logic.{⊎-elim}
 use mathlib.Core.Bool.{Bool, true, false, not}
 use mathlib.Core.List.{List}
@@ -8,15 +8,15 @@ use Prim.Native.Nat.{ℕ, _+_, _-_, _*_, _/_, _≤_, _<_}
 use native.Mathlib.Nat.{div-eq-of-lt-le, mul-le-mul-right, div-mul-le-self}
 use native.Mathlib.Omega.{arith}
 use lib.ListN.{length, getD}
-use lib.Dec.{ltb, leb, eqb}
+use lib.Dec.{ltb}
 use borrow.Author.Tests.{lt-ltb, le-leb}
 use Rattle.rules.proofs.Tests.{and-left, and-right, and-true, and-on, or-on, or-off}
 use Rattle.rules.specs.Limits.{mostTurnover}
 use Rattle.rules.specs.Tests.{_or_, _and_}
 use Rattle.rules.specs.Selection.{count, firsts, listed}
 use Rattle.rules.specs.TakeAll.{turnover, largest}
-use Rattle.rules.specs.Draw.{shifted, shiftedOf, keyNumerator, keyDenominator, fractionBelow, keyBelow, sampledBy}
-use Rattle.selection.proofs.Logic.{lt-or-ge, not-both}
+use Rattle.rules.specs.Draw.{shifted, fractionBelow, keyBelow, sampledBy}
+use Rattle.selection.proofs.Logic.{lt-or-ge}
 use Rattle.selection.proofs.Sums.{sum-same, count-or}
 use Rattle.selection.proofs.Orders.{by-left, by-right}
 use Rattle.selection.proofs.Listed.{listed-same}
@@ -32,8 +32,8 @@ use Rattle.shortlist.proofs.Bounded.{bound-parts}
 use Rattle.shortlist.proofs.Searched.{unit-positive}
 use Rattle.terms.specs.Terms.{unnumbered, outside, Ready}
 use Rattle.ranking.specs.Sampling.{keyOrder}
-use Rattle.terms.specs.Gaps.{gapOf, Gaps}
-use Rattle.terms.proofs.Outside.{outside-is, outside-not}
+use Rattle.terms.specs.Gaps.{Gaps}
+use Rattle.terms.proofs.Outside.{outside-is}
 use Rattle.ranking.proofs.Sampling.{key-is-order, sampled-is, sampled-none, sampled-inside}
 use Rattle.terms.proofs.ByGaps.{units-of, num-is, den-is, gap-inside, gap-outside, zero-inside}
 use Rattle.panel.proofs.Panel.{drawn, drawn-is}

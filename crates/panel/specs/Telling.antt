@@ -2,7 +2,7 @@
 use mathlib.Core.Path.{_≡_}
 use mathlib.Core.Bool.{true, false}
 use mathlib.Core.List.{List}
-use Prim.Native.Nat.{ℕ, _+_, _/_}
+use Prim.Native.Nat.{ℕ, _+_}
 use Rattle.group.specs.declared.Group.{Group}
 use Rattle.bounds.specs.Bound.{Reach}
 use Rattle.shortlist.specs.Found.{Bounds}

@@ -9,13 +9,11 @@ ghost use mathlib.Core.Path.{_≡_};
 ghost use mathlib.Core.List.{_++_};
 ghost use Prim.Native.Nat.{_+_, _<_, _≤_};
 ghost use lib.ListN.{length, getD, drop};
-ghost use Rattle.rules.specs.Selection.{listed, every};
-ghost use Rattle.rules.specs.TakeAll.{larger, baseWeight};
+ghost use Rattle.rules.specs.Selection.{listed};
+ghost use Rattle.rules.specs.TakeAll.{baseWeight};
 ghost use Rattle.rules.specs.Draw.{drawnBy};
-ghost use Rattle.selection.specs.Ranked.{Ranked};
 ghost use Rattle.group.specs.Group.{rulesGroup};
-ghost use Rattle.terms.specs.Terms.{unnumbered, outside, Ready};
-ghost use Rattle.ranking.specs.Sampling.{keyOrder};
+ghost use Rattle.terms.specs.Terms.{unnumbered, Ready};
 ghost use Rattle.shortlist.specs.Found.{passing, Passing};
 ghost use Rattle.panel.specs.Panel.{Next, Arrays};
 

@@ -2,20 +2,18 @@
 -- K7 and K8 go through the job on the listing's bytes, since only that reads, draws, opens, closes and prints in one.
 use mathlib.Core.Path.{_≡_, refl}
 use Prim.Native.Nat.{ℕ, _*_}
-use mathlib.Core.Bool.{Bool, true, false}
-use mathlib.Core.List.{List, [], _∷_, _++_}
-use lib.ListN.{length, replicate}
+use mathlib.Core.List.{List, [], _∷_}
 use Rattle.rules.specs.Tests.{_or_, _and_, outside, refuse}
 use Rattle.rules.specs.Lists.{sum, products, scaled, anyOf, anyPair, risesFrom, rising, elem}
 use Rattle.rules.specs.Selection.{sumOf, count, byKey, rank, firsts, listed, leastFrom}
-use Rattle.rules.specs.TakeAll.{Frame, Group, TakeAllAnswer, frame, moreTurnover, larger, largest, restWithout, reachesRest, fits, takeAllSize, restTurnover, takeAllGroup, baseWeight, badTurnovers, badSize, badCount, takeAllRefusal, takeAllAnswer, takeAllMarks}
+use Rattle.rules.specs.TakeAll.{Frame, TakeAllAnswer, frame, moreTurnover, larger, largest, restWithout, reachesRest, fits, takeAllSize, restTurnover, takeAllGroup, baseWeight, badTurnovers, badSize, badCount, takeAllRefusal, takeAllAnswer, takeAllMarks}
 use Rattle.rules.specs.Draw.{DrawAnswer, shifted, keyNumerator, keyDenominator, fractionBelow, keyBelow, sampledBy, drawnBy, panelNumbers, panelWeights, badLists, badRandom, frameRefusal, drawRefusal, drawAnswer, drawNumbers, drawWeights}
 use Rattle.rules.specs.Rotation.{RotationAnswer, member, members, required, startAt, leaves, suffices, leastStep, leavers, badOldPanel, rotationRefusal, rotationAnswer, rotationLeavers}
-use Rattle.rules.specs.Chain.{Chain, Call, Opening, Answer, held, badIndex, badRelative, badWeight, badUnits, badOpenLists, badBase, badShares, openRefusal, openRecord, openAnswer, link, figureAt, broken, callRefusal, lateRefusal, refusalOf, answerOf, after, answers}
+use Rattle.rules.specs.Chain.{Chain, Call, Answer, held, badIndex, badRelative, badWeight, badUnits, badOpenLists, badBase, badShares, openRefusal, openRecord, openAnswer, link, figureAt, broken, callRefusal, lateRefusal, refusalOf, answerOf, after}
 use Rattle.rules.specs.Direct.{Direct, directOpen, directAfter, numerator, denominator}
 use Rattle.rules.specs.Total.{TotalAnswer, badSectors, totalOf, totalAnswer}
 use Rattle.rules.specs.Stream.{bigEndian, widthOf, commandOf, frontRefusal, reading, restOf}
-use Rattle.rules.specs.Lines.{digitsOn, decimalOn, lineOf, lineOf2, panelLines, quarterLine, closeLine}
+use Rattle.rules.specs.Lines.{digitsOn, decimalOn, lineOf, lineOf2, panelLines}
 use Rattle.rules.specs.Job.{emptyJob, onUnit, drawnJob, onDraw, onShare, onRelative, withChain, onOpen, step, printed, output}
 
 -- "Frame A: units 11 to 15, turnovers 70, 10, 8, 7, 5 million", with the R that K1 and K2 give

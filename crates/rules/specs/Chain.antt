@@ -1,6 +1,6 @@
 -- Document 01, "Chain record", refusals 9 to 13, 19, 21 to 24; 001, formulas 18 and 20.
 use Prim.Native.Nat.{ℕ, zero, suc, _+_, _-_, _*_, _/_}
-use mathlib.Core.Bool.{Bool, true, false, not}
+use mathlib.Core.Bool.{Bool, false, not}
 use mathlib.Core.List.{List, [], _∷_, _++_}
 use lib.ListN.{length, take, drop, replicate}
 use lib.Dec.{leb, ltb, eqb}

@@ -1,11 +1,11 @@
 -- Document 01, "Job stream": the job's state, what each command does, and what a whole stream prints; refusals 15 to 20.
 use Prim.Native.Nat.{ℕ, zero, suc, _-_}
-use mathlib.Core.Bool.{Bool, true, false, cond}
+use mathlib.Core.Bool.{cond}
 use mathlib.Core.List.{List, [], _∷_, _++_}
 use lib.ListN.{length, replicate, set}
 use lib.Dec.{ltb, leb}
-use Rattle.rules.specs.Limits.{shareScale, mostStream, mostHeld, mostPanel}
-use Rattle.rules.specs.TakeAll.{Frame, Group, frame, takeAllGroup}
+use Rattle.rules.specs.Limits.{shareScale, mostStream, mostHeld}
+use Rattle.rules.specs.TakeAll.{Frame, frame, takeAllGroup}
 use Rattle.rules.specs.Draw.{panelNumbers, panelWeights, frameRefusal}
 use Rattle.rules.specs.Chain.{Chain, Call, Opening, Answer, openAnswer, answerOf, after}
 use Rattle.rules.specs.Stream.{Command, Reading, reading, restOf}

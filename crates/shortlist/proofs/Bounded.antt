@@ -1,25 +1,25 @@
 -- What is checked of the short list holds of the frame: exactly z units are within the bound, and each of them comes before all the others.
-use Prim.Native.Nat.{ℕ, _+_, _*_, _/_, _≤_, _<_}
-use mathlib.Core.Bool.{Bool, true, false, not}
+use Prim.Native.Nat.{ℕ, _*_, _/_, _≤_, _<_}
+use mathlib.Core.Bool.{Bool, true, false}
 use mathlib.Core.Logic.{_⊎_, inl, inr, ⊎-elim}
-use mathlib.Core.Path.{_≡_, refl, sym, ap, ap₂, _∙_, subst}
+use mathlib.Core.Path.{_≡_, refl, sym, ap, _∙_, subst}
 use mathlib.Core.List.{List}
 use native.Mathlib.Omega.{arith}
-use native.Mathlib.Nat.{mul-le-mul-right, mul-lt-mul-of-pos-right, lt-of-mul-lt-mul-right}
+use native.Mathlib.Nat.{mul-le-mul-right, mul-lt-mul-of-pos-right}
 use lib.ListN.{length, getD, take}
 use lib.Seq.{getD-take}
 use lib.Dec.{ltb, leb, eqb}
-use borrow.Author.Tests.{lt-ltb, le-ltb, ltb-true, ltb-false, leb-true, leb-false, eqb-true, eqb-false}
+use borrow.Author.Tests.{lt-ltb, ltb-true, ltb-false, leb-true, leb-false, eqb-true, eqb-false}
 use Rattle.rules.proofs.Tests.{and-left, and-right, and-on}
 use Rattle.rules.specs.Tests.{_or_, _and_}
-use Rattle.rules.specs.Selection.{count, sumOf, listed, byKey}
+use Rattle.rules.specs.Selection.{count, listed}
 use Rattle.rules.specs.Draw.{fractionBelow}
 use Rattle.fraction.proofs.Cross.{by-test, whole-less}
 use Rattle.fraction.proofs.Order.{not-below-transitive}
 use Rattle.selection.proofs.Logic.{not-both, lt-or-ge}
 use Rattle.selection.proofs.Sums.{sum-same, listed-length}
 use Rattle.selection.proofs.Listed.{listed-has, has-room, count-again}
-use Rattle.keys.specs.Units.{numOf, denOf, Units}
+use Rattle.keys.specs.Units.{numOf, denOf}
 use Rattle.bounds.specs.declared.Bound.{Bound}
 use Rattle.bounds.specs.Bound.{keyLess, near, partOf, passes, within, mostWord, Apart, Checked}
 use Rattle.shortlist.specs.Found.{Scaled, Parts, Bounds}

@@ -1,20 +1,19 @@
 -- The short list as the search takes it: its units are units of the frame, its numerators fit the scale, and what is checked makes a bound.
-use Prim.Native.Nat.{ℕ, _*_, _/_, _≤_, _<_}
-use mathlib.Core.Bool.{Bool, true}
+use Prim.Native.Nat.{ℕ, _/_, _<_}
+use mathlib.Core.Bool.{Bool}
 use mathlib.Core.Path.{_≡_, refl, sym, ap, _∙_}
 use mathlib.Core.List.{List}
 use native.Mathlib.Omega.{arith}
 use native.Mathlib.Nat.{mul-le-mul-right, div-mul-le-self}
 use lib.ListN.{length, getD, take, length-take}
 use lib.Seq.{getD-take}
-use Rattle.rules.specs.Limits.{randomRange}
 use Rattle.rules.specs.TakeAll.{turnover}
 use Rattle.rules.specs.Draw.{shifted}
 use Rattle.rules.specs.Selection.{count, listed}
-use Rattle.selection.proofs.Sums.{listed-length, count-le}
+use Rattle.selection.proofs.Sums.{listed-length}
 use Rattle.rules.specs.Tests.{_and_}
 use Rattle.selection.proofs.Listed.{listed-low, listed-again, listed-same}
-use Rattle.keys.specs.Units.{numOf, denOf, Units}
+use Rattle.keys.specs.Units.{denOf, Units}
 use Rattle.keys.proofs.Keys.{shifted-low, denominator-positive}
 use Rattle.bounds.specs.declared.Bound.{Bound}
 use Rattle.shortlist.specs.declared.Shortlist.{Shortlist}

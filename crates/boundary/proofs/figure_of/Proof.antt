@@ -1,5 +1,5 @@
 -- `figure_of`: each arm by the definition at its variant.
-use mathlib.Core.Path.{_≡_, refl, sym, ap, _∙_}
+use mathlib.Core.Path.{sym, ap}
 use Rattle.chain.specs.declared.Answer.{Answer}
 use Rattle.chain.specs.Record.{answerFrom}
 use Rattle.boundary.specs.Figures.{figureFrom}

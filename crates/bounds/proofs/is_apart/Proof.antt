@@ -1,7 +1,6 @@
 -- One comparison with the last unit, on the side where the number is.
 use native.Mathlib.Omega.{arith}
-use Prim.Native.Nat.{ℕ}
-use mathlib.Core.Path.{_≡_, sym, _∙_}
+use mathlib.Core.Path.{sym, _∙_}
 use Rattle.bounds.proofs.Terms.{not-true, key-less}
 use borrow.Author.Needs.{needs}
 use Rattle.bounds.proofs.is_apart.Statement.{statement}

@@ -1,7 +1,7 @@
 -- Of the listed units looked at so far, those that pass are counted, and each of the bound's own part is on its side.
 use native.Mathlib.Omega.{arith}
 use Prim.Native.Nat.{ℕ, _+_, _-_, _≤_, _<_}
-use mathlib.Core.Bool.{Bool, true, false, not}
+use mathlib.Core.Bool.{false}
 use mathlib.Core.Path.{_≡_, refl, sym, ap, _∙_, subst}
 use mathlib.Core.Logic.{⊎-elim}
 use mathlib.Core.List.{List}
@@ -14,7 +14,7 @@ use Rattle.selection.proofs.Logic.{not-both}
 use Rattle.bounds.proofs.Terms.{not-false}
 use Rattle.selection.proofs.Sums.{count-zero, count-yes, count-not}
 use Rattle.bounds.specs.declared.Bound.{Bound}
-use Rattle.bounds.specs.Bound.{passes, Apart, Checked}
+use Rattle.bounds.specs.Bound.{passes, Apart}
 use borrow.Author.Needs.{needs}
 use Rattle.bounds.proofs.is_checked.Statement.{statement}
 use Rattle.bounds.proofs.is_checked.Tie as tie

@@ -5,7 +5,6 @@ use mathlib.Core.Bool.{true}
 use mathlib.Core.Path.{_≡_, sym}
 use lib.Dec.{leb}
 use borrow.Author.Tests.{le-leb}
-use Rattle.rules.specs.Limits.{randomRange, mostTurnover}
 use borrow.Author.Needs.{needs}
 use Rattle.bounds.proofs.is_near.Statement.{statement}
 use Rattle.bounds.proofs.is_near.Tie as tie

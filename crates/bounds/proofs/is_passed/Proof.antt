@@ -1,9 +1,9 @@
 -- The three cases of the definition.
 use native.Mathlib.Omega.{arith}
-use mathlib.Core.Path.{_≡_, sym, _∙_}
-use Prim.Native.Nat.{ℕ, _<_, _≤_}
-use mathlib.Core.Bool.{Bool, true, false}
-use lib.Dec.{ltb, leb, eqb}
+use mathlib.Core.Path.{_≡_, sym}
+use Prim.Native.Nat.{ℕ, _<_}
+use mathlib.Core.Bool.{true, false}
+use lib.Dec.{leb}
 use borrow.Author.Tests.{lt-ltb, le-ltb, ne-eqb, eq-eqb}
 use Rattle.rules.specs.Tests.{_or_, _and_}
 use Rattle.bounds.specs.declared.Bound.{Bound}

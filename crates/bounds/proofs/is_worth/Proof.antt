@@ -1,6 +1,6 @@
 -- One pass; nothing is promised of what it says.
 use native.Mathlib.Omega.{arith}
-use Prim.Native.Nat.{ℕ, _-_, _≤_}
+use Prim.Native.Nat.{_-_, _≤_}
 use lib.ListN.{length}
 use Rattle.bounds.proofs.Terms.{reach-low}
 use borrow.Author.Needs.{needs}

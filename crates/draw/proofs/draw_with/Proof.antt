@@ -1,10 +1,9 @@
 -- The facts of an accepted frame feed each step; what is written, from the short list or in order, is then the definition's.
 use native.Mathlib.Omega.{arith}
 use Prim.Native.Nat.{ℕ, _+_}
-use mathlib.Core.Path.{_≡_, sym, ap, _∙_, subst}
+use mathlib.Core.Path.{sym, ap, _∙_, subst}
 use mathlib.Core.List.{List, _++_}
 use lib.ListN.{length, getD, drop}
-use Rattle.rules.specs.Limits.{mostPanel}
 use Rattle.rules.specs.TakeAll.{Frame, frame, baseWeight}
 use Rattle.frame.proofs.Accepted.{Accepted, accepted}
 use Rattle.group.specs.declared.Group.{Group}

@@ -1,7 +1,7 @@
 -- The two arrays in order, and the panel from them.
 use native.Mathlib.Omega.{arith}
-use Prim.Native.Nat.{ℕ, _+_, _≤_}
-use mathlib.Core.Path.{_≡_, sym}
+use Prim.Native.Nat.{_+_}
+use mathlib.Core.Path.{sym}
 use Rattle.panel.specs.Panel.{Arrays}
 use Rattle.selection.proofs.Places.{ranked-short}
 use Rattle.rules.specs.Selection.{every}

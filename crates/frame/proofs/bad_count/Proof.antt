@@ -1,9 +1,6 @@
 -- `bad_count` meets its contract: its two tests are the definition's.
 use mathlib.Core.Path.{sym}
-use lib.Dec.{ltb}
-use lib.ListN.{length}
 use borrow.Author.Tests.{eq-eqb, ne-eqb}
-use Rattle.rules.specs.Limits.{mostFrame}
 use Rattle.rules.specs.TakeAll.{badCount}
 use Rattle.rules.proofs.Tests.{or-on, or-off}
 use Rattle.frame.proofs.bad_count.Statement.{statement}

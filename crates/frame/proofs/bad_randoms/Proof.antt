@@ -1,5 +1,5 @@
 -- `bad_randoms` meets its contract. The invariant: what the places from i on say is what the whole list says.
-use Prim.Native.Nat.{_+_, _-_, _≤_}
+use Prim.Native.Nat.{_-_, _≤_}
 use mathlib.Core.Path.{_≡_, refl, sym, _∙_}
 use native.Mathlib.Omega.{arith}
 use lib.ListN.{length, drop}

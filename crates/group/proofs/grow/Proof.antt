@@ -10,7 +10,7 @@ use lib.Dec.{ltb}
 use borrow.Author.Tests.{lt-ltb, le-ltb}
 use Rattle.rules.specs.Limits.{mostTurnover, mostPanel}
 use Rattle.rules.specs.Selection.{every, leastFrom}
-use Rattle.rules.specs.TakeAll.{turnover, larger, restWithout, fits, takeAllSize, restTurnover, takeAllGroup}
+use Rattle.rules.specs.TakeAll.{turnover, larger, restWithout, fits, takeAllSize}
 use Rattle.selection.specs.Ranked.{Ranked}
 use Rattle.selection.proofs.Sums.{sum-has, sum-list}
 use Rattle.selection.proofs.Least.{least-hit, least-miss, least-end}

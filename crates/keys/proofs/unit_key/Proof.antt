@@ -1,13 +1,13 @@
 -- `unit_key` meets its contract: the shift and the products of `key_over`, with the gap that is given.
-use mathlib.Core.Path.{_≡_, sym, ap, _∙_}
+use mathlib.Core.Path.{ap, _∙_}
 use native.Mathlib.Omega.{arith}
 use borrow.Author.Needs.{needs}
 use Prim.Native.Nat.{ℕ, _*_, _<_}
-use lib.ListN.{length, getD}
+use lib.ListN.{getD}
 use Rattle.rules.specs.Limits.{randomRange}
 use Rattle.rules.specs.TakeAll.{turnover}
-use Rattle.rules.specs.Draw.{shifted, keyDenominator}
-use Rattle.keys.specs.Units.{numOf, denOf, UnitKey}
+use Rattle.rules.specs.Draw.{keyDenominator}
+use Rattle.keys.specs.Units.{numOf, denOf}
 use Rattle.keys.proofs.Keys.{shifted-low, denominator-positive}
 use Rattle.keys.proofs.unit_key.Statement.{statement}
 use Rattle.keys.proofs.unit_key.Tie as tie

@@ -1,6 +1,6 @@
 -- One pass; nothing is promised of what it finds.
 use native.Mathlib.Omega.{arith}
-use Prim.Native.Nat.{ℕ, _-_, _≤_}
+use Prim.Native.Nat.{_-_, _≤_}
 use lib.ListN.{length}
 use borrow.Author.Needs.{needs}
 use Rattle.search.proofs.last_unit.Statement.{statement}

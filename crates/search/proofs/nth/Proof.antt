@@ -1,6 +1,6 @@
 -- The two ends come together; nothing is promised of where.
 use native.Mathlib.Omega.{arith}
-use Prim.Native.Nat.{ℕ, _-_, _≤_}
+use Prim.Native.Nat.{_-_, _≤_}
 use Rattle.bounds.specs.Bound.{mostWord}
 use borrow.Author.Needs.{needs}
 use Rattle.search.proofs.nth.Statement.{statement}

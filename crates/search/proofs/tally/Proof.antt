@@ -1,6 +1,6 @@
 -- A count of places, which does not wrap: it is at most j.
 use native.Mathlib.Omega.{arith}
-use Prim.Native.Nat.{ℕ, _-_, _≤_}
+use Prim.Native.Nat.{_-_, _≤_}
 use lib.ListN.{length}
 use mathlib.Core.Logic.{⊎-elim}
 use borrow.Author.Needs.{needs}

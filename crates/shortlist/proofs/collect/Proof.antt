@@ -1,10 +1,10 @@
 -- The units listed so far are the near ones of those looked at.
 use native.Mathlib.Omega.{arith}
 use Prim.Native.Nat.{ℕ, _+_, _-_, _≤_, _<_}
-use mathlib.Core.Path.{_≡_, refl, sym, ap, _∙_, subst}
+use mathlib.Core.Path.{_≡_, refl, sym, ap, _∙_}
 use mathlib.Core.Logic.{⊎-elim}
 use mathlib.Core.List.{List}
-use lib.ListN.{length, getD, set, length-set}
+use lib.ListN.{length, length-set}
 use Rattle.bounds.specs.Bound.{near}
 use Rattle.shortlist.specs.Found.{listRoom, Listed}
 use Rattle.bounds.proofs.Terms.{near-is, reach-low}

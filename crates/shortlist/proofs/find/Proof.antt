@@ -1,10 +1,9 @@
 -- The search finds a bound; the check makes it one.
 use native.Mathlib.Omega.{arith}
-use mathlib.Core.Bool.{true, false}
-use mathlib.Core.Path.{_≡_, refl, sym, _∙_}
-use lib.ListN.{length, take, length-take}
+use mathlib.Core.Bool.{false}
+use mathlib.Core.Path.{refl}
+use lib.ListN.{length-take}
 use Rattle.selection.proofs.Logic.{not-both}
-use Rattle.bounds.specs.Bound.{mostWord}
 use Rattle.shortlist.proofs.Searched.{under-scaled, listed-count, listed-placed, is-found}
 use borrow.Author.Needs.{needs}
 use Rattle.shortlist.proofs.find.Statement.{statement}

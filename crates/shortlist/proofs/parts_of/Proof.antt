@@ -1,6 +1,6 @@
 -- The parts laid so far are those of their units.
 use native.Mathlib.Omega.{arith}
-use Prim.Native.Nat.{ℕ, _+_, _-_, _*_, _/_, _≤_, _<_}
+use Prim.Native.Nat.{ℕ, _+_, _-_, _*_, _≤_, _<_}
 use mathlib.Core.Path.{_≡_, refl, sym, ap, _∙_, subst}
 use mathlib.Core.Logic.{⊎-elim}
 use mathlib.Core.List.{List}
@@ -8,7 +8,7 @@ use native.Mathlib.Nat.{not-suc-le-zero, eq-or-lt-of-le, le-of-suc-le-suc}
 use native.Mathlib.Numerals.{add-one}
 use lib.ListN.{length, getD, set, length-set}
 use lib.Seq.{getD-set-same, getD-set-other}
-use Rattle.bounds.specs.Bound.{partOf, mostWord}
+use Rattle.bounds.specs.Bound.{partOf}
 use Rattle.shortlist.specs.Found.{listRoom, Parts}
 use Rattle.bounds.proofs.Terms.{part-is}
 use borrow.Author.Needs.{needs}

@@ -1,5 +1,5 @@
 -- `vougecress_open`: a short list is 6; else the inner open's answer, and its record laid over the list where it is accepted.
-use mathlib.Core.Path.{_≡_, sym, ap, _∙_}
+use mathlib.Core.Path.{sym, ap, _∙_}
 use borrow.Author.Tests.{lt-ltb, le-ltb}
 use lib.ListN.{length}
 use Rattle.refusals.specs.Number.{numberOf}

@@ -1,5 +1,5 @@
 -- `vougecress_total`: each arm by the definition at its variant.
-use mathlib.Core.Path.{_≡_, sym, ap, _∙_}
+use mathlib.Core.Path.{sym, ap, _∙_}
 use Rattle.total.specs.declared.TotalAnswer.{TotalAnswer}
 use Rattle.total.specs.Answer.{totalFrom}
 use Rattle.boundary.specs.Figures.{sumFrom}

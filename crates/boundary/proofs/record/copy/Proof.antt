@@ -1,10 +1,9 @@
 -- `copy`: the first i places are those of the list that is copied.
-use mathlib.Core.Path.{_≡_, refl, sym, ap, _∙_}
-use mathlib.Core.List.{List, [], _++_}
-use Prim.Native.Nat.{ℕ, _+_, _-_, _≤_, _<_}
+use mathlib.Core.Path.{_≡_, refl, sym, _∙_}
+use Prim.Native.Nat.{_-_, _≤_, _<_}
 use native.Mathlib.Omega.{arith}
 use native.Mathlib.Numerals.{add-one}
-use lib.ListN.{length, getD, take, drop, set, length-set}
+use lib.ListN.{length, getD, take, length-set}
 use lib.Seq.{take-all, take-suc, take-suc-set}
 use Rattle.boundary.proofs.record.copy.Statement.{statement}
 use Rattle.boundary.proofs.record.copy.Tie as tie

@@ -1,5 +1,5 @@
 -- `load`: the numbers, and the weights as `copy` leaves them.
-use mathlib.Core.Path.{_≡_, ap}
+use mathlib.Core.Path.{ap}
 use mathlib.Core.List.{List}
 use Prim.Native.Nat.{ℕ}
 use lib.ListN.{getD}

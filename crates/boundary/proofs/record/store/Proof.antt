@@ -1,6 +1,5 @@
 -- `store`: three numbers and then the weights, laid over the first 103 places.
 use mathlib.Core.Path.{_≡_, _∙_}
-use Prim.Native.Nat.{_≤_}
 use native.Mathlib.Omega.{arith}
 use lib.ListN.{length, set, length-set, length-take, length-drop}
 use Rattle.rules.specs.Limits.{mostPanel}

@@ -1,6 +1,6 @@
 -- By the bound or by the last sampled unit; a gap of 0 is that of a unit that is not sampled.
 use native.Mathlib.Omega.{arith}
-use mathlib.Core.Path.{_≡_, sym, _∙_}
+use mathlib.Core.Path.{sym, _∙_}
 use Rattle.bounds.proofs.Terms.{not-true, not-false}
 use Rattle.terms.proofs.ByGaps.{units-of}
 use Rattle.panel.proofs.Short.{gap-none, gap-some-outside, within-sampled}

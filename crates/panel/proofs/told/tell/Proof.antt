@@ -1,7 +1,7 @@
 -- What the short list found, where it is sure, and else the last sampled unit.
 use native.Mathlib.Omega.{arith}
 use mathlib.Core.Bool.{true, false}
-use mathlib.Core.Path.{_≡_, refl, _∙_}
+use mathlib.Core.Path.{refl, _∙_}
 use Rattle.selection.proofs.Logic.{not-both}
 use Rattle.terms.proofs.ByGaps.{units-of}
 use Rattle.panel.proofs.Short.{reach-at}

@@ -8,8 +8,6 @@ use native.Mathlib.Omega.{arith}
 use lib.ListN.{length, getD, set, length-set}
 use lib.Seq.{getD-set-same, getD-set-other}
 use borrow.Author.Needs.{needs}
-use Rattle.rules.specs.Limits.{mostTurnover}
-use Rattle.rules.specs.TakeAll.{turnover}
 use Rattle.frame.proofs.Accepted.{place-within}
 use Rattle.group.specs.declared.Group.{Group}
 use Rattle.terms.specs.Gaps.{gapOf}

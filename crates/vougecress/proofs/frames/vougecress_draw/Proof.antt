@@ -1,5 +1,5 @@
 -- `vougecress_draw`: each arm by the definition at its variant; the buffers are as the inner entry leaves them.
-use mathlib.Core.Path.{_≡_, sym, ap, _∙_}
+use mathlib.Core.Path.{sym, ap, _∙_}
 use Rattle.draw.specs.declared.Answer.{Answer}
 use Rattle.draw.specs.Answer.{answerOf}
 use Rattle.vougecress.specs.Answers.{drawnFrom}

@@ -1,5 +1,5 @@
 -- `vougecress_take_all`: each arm by the definition at its variant; the buffers are as the inner entry leaves them.
-use mathlib.Core.Path.{_≡_, sym, ap, _∙_}
+use mathlib.Core.Path.{sym, ap, _∙_}
 use Rattle.takeall.specs.declared.Answer.{Answer}
 use Rattle.takeall.specs.Answer.{answerOf}
 use Rattle.vougecress.specs.Answers.{takenFrom}
