@@ -225,6 +225,11 @@ def some_commands(rng):
     return commands
 
 
+def job_cases(commands):
+    """What the stream of these commands prints."""
+    yield from output_cases([octet for command in commands for octet in encoded(command)])
+
+
 def stream_suite(rng, count):
     yield from output_cases([])
     for _ in range(count):
@@ -273,6 +278,27 @@ def limit_suite():
         yield from rotation_cases(*pair, 1, 0, [5], f, [])
 
 
+def edge_suite():
+    """Places where one number more or less decides, which random cases seldom meet."""
+    for relative in (9_999, 10_000, 10_001):  # 22: the sum of the weights at 10^14
+        yield from open_cases([10**14], [10_000], [relative], 10**9)
+        yield from call_cases(chain.Record(1, [10**14], 10**9, 0), [relative])
+    for turnovers in ([10**12 - 1, 1], [10**12, 1]):  # 3: the total turnover at 10^12
+        yield from frame_refusal_cases([1, 2], turnovers, [0, 0], 1, 0)
+    last = ([5, 8], [1_000, 1_000], [498_500, 499_500], 1, 500_000, [5], 1_000, [0])
+    yield from rotation_cases(*last)  # unit 5 leaves at the last step alone
+    never = ([5, 8], [1_000, 1_000], [498_500, 498_500], 1, 500_000, [5], 1_000, [0])
+    yield from rotation_cases(*never)  # 8: a tie that unit 5 wins at every start
+    drawn = [("unit", number, 5 * 10**6, number) for number in (1, 2, 3)] + [("draw", 2, 0)]
+    for command in (("relative", 1, 10_000), ("relative", 2, 10_000), ("share", 1, 10_000), ("share", 2, 10_000)):
+        yield from job_cases(drawn + [command, ("close",)])  # 18 at the panel's size
+    yield from job_cases([("open", 10**9)])  # 19 before the open's own 9
+    # an absent unit's relative stays 0: after a draw, an open, a quarter and a close
+    yield from job_cases(drawn + [("share", 0, 0)] + 2 * [("relative", 1, 10_000), ("open", 10**9)])
+    calls = [command for call in ("quarter", "close", "quarter") for command in (("relative", 1, 12_000), (call,))]
+    yield from job_cases(drawn + [("share", 0, 0), ("relative", 1, 10_000), ("open", 10**9)] + calls)
+
+
 def full_frame_cases():
     """20: the 1,025th unit, judged from a job that holds 1,023, 1,024 or 1,025."""
     for held in (1_023, 1_024, 1_025):
@@ -286,6 +312,7 @@ def full_frame_cases():
 
 SUITES = {
     "limits": lambda rng, times: list(limit_suite()) + list(full_frame_cases()),
+    "edges": lambda rng, times: edge_suite(),
     "reading": lambda rng, times: reading_suite(),
     "frame": lambda rng, times: frame_suite(rng, 60 * times),
     "rotation": lambda rng, times: rotation_suite(rng, 40 * times),
