@@ -1,5 +1,6 @@
 // The chain record as a lent list: units, index and closes, and then its 100 weights.
 use chain::Chain;
+use weights::MOST_PANEL;
 ghost use mathlib.Core.Path.{_≡_};
 ghost use mathlib.Core.List.{_++_};
 ghost use Prim.Native.Nat.{_≤_};
@@ -30,7 +31,7 @@ pub fn load(lent: &[u64]) -> Chain
     requires { ⌜ recordPlaces ≤ length (now lent) ⌝ }
     ensures { λ r. ⌜ recordOf r ≡ recordIn (now (lent .entry)) ⌝ }
 {
-    let mut v = [0u64; 100];
+    let mut v = [0u64; MOST_PANEL];
     copy(&lent[BEFORE..RECORD], &mut v);
     Chain {
         weights: v,

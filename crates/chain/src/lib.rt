@@ -3,13 +3,14 @@
 use refusals::Refusal;
 use refusals::Verdict;
 use relative::Relative;
+use weights::MOST_PANEL;
 ghost use mathlib.Core.Path.{_≡_};
 ghost use Rattle.rules.specs.Chain.{Call, answerOf, after};
 ghost use Rattle.chain.specs.Record.{recordOf, answerFrom};
 
 // `weights` has every place of the record; the units' v are the first `units` of them.
 pub struct Chain {
-    pub weights: [u64; 100],
+    pub weights: [u64; MOST_PANEL],
     pub units: usize,
     pub index: u64,
     pub closes: u64,

@@ -1,7 +1,7 @@
 // Document 01, "Job stream": what each command does to the job; here the draw of a panel from the frame so far.
 use draw::Answer;
-use jobgiven::MOST_HELD;
 use jobstate::Job;
+use jobstate::MOST_HELD;
 use jobstate::Saying;
 use jobstate::Stepped;
 use jobstate::said;

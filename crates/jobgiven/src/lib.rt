@@ -2,6 +2,7 @@
 // Whoever uses the value judges it.
 use frame::MOST_PANEL;
 use jobstate::Job;
+use jobstate::MOST_HELD;
 use jobstate::Saying;
 use jobstate::Stepped;
 use jobstate::said;
@@ -10,9 +11,6 @@ use refusals::Refusal;
 ghost use mathlib.Core.Path.{_≡_};
 ghost use Rattle.rules.specs.Job.{onUnit, onShare, onRelative};
 ghost use Rattle.jobstate.specs.State.{jobOf, stepFrom};
-
-// Units that a job holds.
-pub const MOST_HELD: usize = 1024;
 
 // 1: a unit joins the frame.
 pub fn on_unit(job: Job, number: u32, turnover: u64, random: u32) -> Stepped

@@ -3,6 +3,7 @@
 use chain::Chain;
 use openinput::SHARE_SCALE;
 use refusals::Refusal;
+use weights::MOST_PANEL;
 ghost use mathlib.Core.Path.{_≡_};
 ghost use Prim.Native.Nat.{min};
 ghost use lib.ListN.{replicate, take};
@@ -11,15 +12,18 @@ ghost use Rattle.rules.specs.Job.{emptyJob, withChain, drawnJob};
 ghost use Rattle.chain.specs.Record.{recordOf};
 ghost use Rattle.jobstate.specs.State.{jobOf};
 
+// Units that a job holds.
+pub const MOST_HELD: usize = 1024;
+
 // The frame so far, the W of the drawn panel with its shares and pending relatives, and the chain if it is open.
 pub struct Job {
-    pub numbers: [u32; 1024],
-    pub turnovers: [u64; 1024],
-    pub randoms: [u32; 1024],
+    pub numbers: [u32; MOST_HELD],
+    pub turnovers: [u64; MOST_HELD],
+    pub randoms: [u32; MOST_HELD],
     pub units: usize,
-    pub panel: [u64; 100],
-    pub shares: [u32; 100],
-    pub pending: [u32; 100],
+    pub panel: [u64; MOST_PANEL],
+    pub shares: [u32; MOST_PANEL],
+    pub pending: [u32; MOST_PANEL],
     pub size: usize,
     pub chain: Chain,
     pub is_open: bool,
@@ -38,7 +42,7 @@ pub enum Saying {
 pub struct Stepped {
     pub job: Job,
     pub says: Saying,
-    pub numbers: [u32; 100],
+    pub numbers: [u32; MOST_PANEL],
 }
 
 // How many of the places of an array a count names.
@@ -52,29 +56,29 @@ pub fn within(count: usize, places: usize) -> usize
 }
 
 // The arrays of a frame without units and of a panel without a weight.
-pub fn no_units() -> [u32; 1024]
+pub fn no_units() -> [u32; MOST_HELD]
     ensures { λ r. ⌜ r ≡ replicate mostHeld 0 ⌝ }
 {
-    [0; 1024]
+    [0; MOST_HELD]
 }
 
-pub fn no_turnovers() -> [u64; 1024]
+pub fn no_turnovers() -> [u64; MOST_HELD]
     ensures { λ r. ⌜ r ≡ replicate mostHeld 0 ⌝ }
 {
-    [0; 1024]
+    [0; MOST_HELD]
 }
 
 // One number for each place of a panel.
-pub fn places(x: u32) -> [u32; 100]
+pub fn places(x: u32) -> [u32; MOST_PANEL]
     ensures { λ r. ⌜ r ≡ replicate mostPanel x ⌝ }
 {
-    [x; 100]
+    [x; MOST_PANEL]
 }
 
-pub fn no_weights() -> [u64; 100]
+pub fn no_weights() -> [u64; MOST_PANEL]
     ensures { λ r. ⌜ r ≡ replicate mostPanel 0 ⌝ }
 {
-    [0; 100]
+    [0; MOST_PANEL]
 }
 
 // A step that draws no panel.
@@ -102,7 +106,7 @@ pub fn with_chain(job: Job, chain: Chain) -> Job
 }
 
 // The job after an accepted draw: a panel with whole shares, no relatives and no chain; the frame stays.
-pub fn drawn(job: Job, size: usize, weights: [u64; 100]) -> Job
+pub fn drawn(job: Job, size: usize, weights: [u64; MOST_PANEL]) -> Job
     ensures { λ r. ⌜ (r .size ≡ size) × (jobOf r ≡ drawnJob (jobOf job) (min size mostPanel) (take size weights)) ⌝ }
 {
     let whole = places(SHARE_SCALE as u32);

@@ -16,7 +16,7 @@ ghost use Rattle.members.specs.Places.{PlacesOf, inPanel};
 
 // Units of the frame: the first `count` of `places` are their places in it, rising.
 pub struct Places {
-    pub places: [usize; 100],
+    pub places: [usize; MOST_PANEL],
     pub count: usize,
 }
 

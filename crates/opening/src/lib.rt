@@ -2,6 +2,7 @@
 use chain::Chain;
 use refusals::Refusal;
 use refusals::Verdict;
+use weights::MOST_PANEL;
 ghost use mathlib.Core.Path.{_≡_};
 ghost use lib.ListN.{replicate};
 ghost use Rattle.rules.specs.Limits.{mostPanel};
@@ -21,10 +22,10 @@ pub struct Opened {
 }
 
 // A record's places, all 0.
-fn blank() -> [u64; 100]
+fn blank() -> [u64; MOST_PANEL]
     ensures { λ r. ⌜ r ≡ replicate mostPanel 0 ⌝ }
 {
-    [0u64; 100]
+    [0u64; MOST_PANEL]
 }
 
 fn refused(why: Refusal) -> Opened

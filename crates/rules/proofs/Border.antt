@@ -21,6 +21,13 @@ above-outside w = omega (arith, w .notAbove)
 pub below-outside : Within 9999977 10000000 1 1 → ⊥
 below-outside w = omega (arith, w .notBelow)
 
+-- one part in 10^13 beyond it, on either side: a scale that is smaller by one would let these in
+pub just-above-outside : Within 10000022000001 10000000000000 1 1 → ⊥
+just-above-outside w = omega (arith, w .notAbove)
+
+pub just-below-outside : Within 9999977999999 10000000000000 1 1 → ⊥
+just-below-outside w = omega (arith, w .notBelow)
+
 pub later-within : Within 10000033 10000000 1 2
 later-within = record { defined = omega arith; notAbove = omega arith; notBelow = omega arith }
 

@@ -19,15 +19,15 @@ pub const MOST_WORD: u64 = 18446744073709551615;
 
 // The short-listed among the first `seen` units of a frame.
 pub struct Shortlist {
-    pub units: [usize; 256],
+    pub units: [usize; ROOM],
     pub count: usize,
     pub seen: usize,
 }
 
 // What is found: the short list with its units' parts, and a bound, which holds only where it is sure.
 pub struct Found {
-    pub units: [usize; 256],
-    pub parts: [u64; 256],
+    pub units: [usize; ROOM],
+    pub parts: [u64; ROOM],
     pub count: usize,
     pub bound: Bound,
     pub sure: bool,
@@ -100,7 +100,7 @@ fn parts_of(
     start: u32,
     scale: u64,
     units: &[usize],
-) -> [u64; 256]
+) -> [u64; ROOM]
     requires { ⌜ Units (now turnovers) (now randoms) (now gaps) start × Placed (length (now turnovers)) (now units) ⌝ }
     requires { ⌜ Scaled (now randoms) (now gaps) start (now units) scale × (length (now units) ≤ listRoom) ⌝ }
     ensures { λ r. ⌜ (length r ≡ listRoom) × Parts (now (turnovers .entry)) (now (randoms .entry)) (now (gaps .entry)) start scale (now (units .entry)) r ⌝ }
