@@ -75,16 +75,6 @@ fn grow(turnovers: &[u64], z: usize, total: u64, top: &[usize]) -> Group
     }
 }
 
-// The group, where the z largest units are known.
-pub fn group_from(turnovers: &[u64], z: usize, top: &[usize]) -> Group
-    requires { ⌜ Sized (now turnovers) z ⌝ }
-    requires { ⌜ (z ≤ length (now top)) × Ranked every (larger (now turnovers)) (length (now turnovers)) (now top) z ⌝ }
-    ensures { λ r. ⌜ IsGroup (now (turnovers .entry)) z r ⌝ }
-{
-    let total = total(turnovers);
-    grow(turnovers, z, total, top)
-}
-
 // The group of a frame that refusals 3 and 5 leave. Where not even the largest turnover reaches X at q = 0, which is the total, no unit
 // is take-all, and no unit needs to be put in order.
 pub fn find_group(turnovers: &[u64], z: usize) -> Group
