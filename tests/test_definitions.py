@@ -285,6 +285,8 @@ def edge_suite():
         yield from call_cases(chain.Record(1, [10**14], 10**9, 0), [relative])
     for turnovers in ([10**12 - 1, 1], [10**12, 1]):  # 3: the total turnover at 10^12
         yield from frame_refusal_cases([1, 2], turnovers, [0, 0], 1, 0)
+    yield from take_all_cases([], 1, [])  # 1: no unit, before 5
+    yield from take_all_cases([1] * 16_385, 100, [0] * 16_385)  # 1: a unit too many
     last = ([5, 8], [1_000, 1_000], [498_500, 499_500], 1, 500_000, [5], 1_000, [0])
     yield from rotation_cases(*last)  # unit 5 leaves at the last step alone
     never = ([5, 8], [1_000, 1_000], [498_500, 498_500], 1, 500_000, [5], 1_000, [0])

@@ -5,22 +5,18 @@ use mathlib.Core.List.{List, _++_}
 use Prim.Native.Nat.{ℕ, _+_, _-_, _≤_, _<_}
 use native.Mathlib.Omega.{arith}
 use lib.ListN.{length, getD, drop}
-use Rattle.rules.specs.Limits.{randomRange, mostPanel}
-use Rattle.rules.specs.Selection.{count, listed, every}
-use Rattle.rules.specs.TakeAll.{Frame, frame, larger, largest, takeAllSize, restTurnover, takeAllGroup, baseWeight, written}
+use Rattle.rules.specs.Limits.{randomRange}
+use Rattle.rules.specs.Selection.{count, listed}
+use Rattle.rules.specs.TakeAll.{Frame, frame, largest, takeAllSize, restTurnover, takeAllGroup, baseWeight, written}
 use Rattle.rules.specs.TakeAll.{Group as RulesGroup}
 use Rattle.rules.specs.Draw.{drawnBy, panelNumbers, panelWeights, drawRefusal, drawNumbers, drawWeights}
 use Rattle.frame.proofs.Accepted.{Accepted}
-use Rattle.selection.specs.Ranked.{Ranked}
 use Rattle.selection.proofs.Sums.{listed-length}
-use Rattle.selection.proofs.Places.{ranked-short}
 use Rattle.selection.proofs.TakeAll.{size-le, rest-le, outside-count}
 use Rattle.group.specs.declared.Group.{Group}
 use Rattle.largest.specs.Sized.{Sized}
 use Rattle.group.specs.Group.{IsGroup, rulesGroup}
 use Rattle.terms.specs.Terms.{outside, Ready}
-use Rattle.ranking.specs.Sampling.{keyOrder}
-use Rattle.panel.specs.Panel.{Arrays}
 use Rattle.panel.proofs.Panel.{drawn, drawn-any}
 
 -- ---- the group
@@ -73,14 +69,6 @@ frame-ready f z judged start g ok k low = record {
 }
 
 -- the arrays of a panel
-pub panel-arrays : (ts rs : List ℕ) (z start : ℕ) (g : Group) (large sampled : List ℕ) → Sized ts z → IsGroup ts z g → (length large ≡ mostPanel) × Ranked every (larger ts) (length ts) large z → (length sampled ≡ mostPanel) × Ranked (outside ts g) (keyOrder ts rs g start) (length ts) sampled (g .n) → Arrays ts rs g start large sampled
-panel-arrays ts rs z start g large sampled w k l s = record {
-  large-room = omega (arith, panel-size ts z g k, w .most, l .0);
-  large-ranked = ranked-short every (larger ts) (length ts) z (g .q) large (omega (arith, panel-size ts z g k)) (l .1);
-  sampled-room = omega (arith, panel-size ts z g k, w .most, s .0);
-  sampled-ranked = s .1;
-}
-
 -- ---- the buffers of an accepted draw
 written-all : (number : ℕ) (news buffer : List ℕ) (size : ℕ) → number ≡ 0 → length news ≡ size → written number news buffer ≡ news ++ drop size buffer
 written-all number news buffer size e l = rw (e, l)

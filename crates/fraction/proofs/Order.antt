@@ -3,9 +3,9 @@
 use Prim.Native.Nat.{ℕ, _*_, _<_}
 use mathlib.Core.Bool.{true, false}
 use mathlib.Core.Path.{_≡_}
-use native.Mathlib.Nat.{mul-lt-mul-of-pos-right, mul-le-mul-right, lt-of-mul-lt-mul-right, le-of-mul-le-mul-right}
+use native.Mathlib.Nat.{mul-le-mul-right, le-of-mul-le-mul-right}
 use native.Mathlib.Omega.{arith}
-use borrow.Author.Tests.{ltb-true, ltb-false, lt-ltb, le-ltb}
+use borrow.Author.Tests.{ltb-true, ltb-false, le-ltb}
 use Rattle.rules.specs.Draw.{fractionBelow}
 
 -- a fraction is not below itself
@@ -17,20 +17,6 @@ irreflexive a b = le-ltb (a * b) (a * b) (omega arith)
 pub asymmetric : (a b c d : ℕ) → fractionBelow a b c d ≡ true → fractionBelow c d a b ≡ false
 unfolding fractionBelow
 asymmetric a b c d h = le-ltb (c * b) (a * d) (omega (arith, ltb-true (a * d) (c * b) h))
-
--- a/b < c/d < e/f
-pub transitive :
-    (a b c d e f : ℕ) → 0 < b → 0 < d → 0 < f → fractionBelow a b c d ≡ true → fractionBelow c d e f ≡ true
-    → fractionBelow a b e f ≡ true
-unfolding fractionBelow
-transitive a b c d e f hb hd hf h k =
-    lt-ltb (a * f) (e * b)
-    (lt-of-mul-lt-mul-right d
-    (omega (
-      arith,
-      mul-lt-mul-of-pos-right (ltb-true (a * d) (c * b) h) hf,
-      mul-lt-mul-of-pos-right (ltb-true (c * f) (e * d) k) hb,
-    )))
 
 -- a/b ≥ c/d ≥ e/f
 pub not-below-transitive :

@@ -1,4 +1,4 @@
--- Tests: that one holds or fails and not both, that two are equal, and the two cases of a comparison.
+-- Tests: that none both holds and fails, and the two cases of a comparison.
 use mathlib.Core.Path.{_≡_, refl, sym, _∙_, subst}
 use mathlib.Core.Logic.{_⊎_, inl, inr}
 use mathlib.Core.Bool.{Bool, true, false}
@@ -23,9 +23,3 @@ lt-or-ge a b = go (ltb a b) refl
     go : (t : Bool) → ltb a b ≡ t → (a < b) ⊎ (b ≤ a)
     go true e = inl (ltb-true a b e)
     go false e = inr (ltb-false a b e)
-
--- two tests are equal where each follows from the other
-pub same-tests : (a b : Bool) → (a ≡ true → b ≡ true) → (b ≡ true → a ≡ true) → a ≡ b
-same-tests true b f g = sym (f refl)
-same-tests false true f g = g refl
-same-tests false false f g = refl

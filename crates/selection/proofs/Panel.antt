@@ -97,9 +97,6 @@ rises-more (x ∷ xs) y bound w l = record { rises = rises-snoc x xs y (w .rises
         let a : xs ++ y ∷ [] ≡ us = cc in
         subst (λ (vs : List ℕ). lastOf u vs < bound) a (rw (last-snoc u xs y) l)
 
-rises-under : (xs : List ℕ) (a b : ℕ) → a ≤ b → RisesTo xs a → RisesTo xs b
-rises-under xs a b l w = record { rises = w .rises; under = λ x ys e. omega (arith, w .under x ys e) }
-
 -- a strictly rising list rises from place to place
 rises-at : (x : ℕ) (xs : List ℕ) (i : ℕ) → risesFrom x xs ≡ true → i < length xs → x < getD xs i 0
 unfolding risesFrom

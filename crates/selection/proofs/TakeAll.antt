@@ -14,7 +14,7 @@ use borrow.Author.Tests.{lt-ltb, le-ltb, ltb-true, ltb-false, leb-true, le-leb, 
 use Rattle.rules.proofs.Tests.{and-on}
 use Rattle.rules.specs.Tests.{_or_}
 use Rattle.rules.specs.Lists.{sum}
-use Rattle.rules.specs.Selection.{sumOf, count, rank, firsts, byKey, leastFrom, every}
+use Rattle.rules.specs.Selection.{sumOf, count, rank, firsts, leastFrom, every}
 use Rattle.rules.specs.TakeAll.{turnover, moreTurnover, larger, largest, restWithout, reachesRest, fits, takeAllSize, restTurnover}
 use Rattle.selection.specs.Ranked.{Ranked}
 use Rattle.selection.proofs.Logic.{lt-or-ge}
@@ -38,11 +38,7 @@ pub larger-order : (ts : List ℕ) (n : ℕ) → Order every (larger ts) n
 unfolding larger
 larger-order ts n = key-order every (moreTurnover ts) n (more-order ts n)
 
--- more turnover comes first; who does not come first has no more
-more-first : (ts : List ℕ) (i j : ℕ) → getD ts j 0 < getD ts i 0 → larger ts i j ≡ true
-unfolding larger byKey moreTurnover _or_
-more-first ts i j h = rw (lt-ltb (getD ts j 0) (getD ts i 0) h)
-
+-- who does not come first has no more turnover
 pub first-more : (ts : List ℕ) (i j : ℕ) → larger ts j i ≡ false → getD ts j 0 ≤ getD ts i 0
 unfolding larger moreTurnover
 first-more ts i j h = go (by-not (moreTurnover ts) j i h .0)
