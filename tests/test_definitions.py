@@ -287,6 +287,8 @@ def edge_suite():
         yield from frame_refusal_cases([1, 2], turnovers, [0, 0], 1, 0)
     yield from take_all_cases([], 1, [])  # 1: no unit, before 5
     yield from take_all_cases([1] * 16_385, 100, [0] * 16_385)  # 1: a unit too many
+    for number in (0, 9, 10, 10**19 - 1, 10**19, 2**64 - 1):  # as many digits as 64 bits have
+        yield f"decimalOn {number} []", number_list(str(number).encode())
     last = ([5, 8], [1_000, 1_000], [498_500, 499_500], 1, 500_000, [5], 1_000, [0])
     yield from rotation_cases(*last)  # unit 5 leaves at the last step alone
     never = ([5, 8], [1_000, 1_000], [498_500, 498_500], 1, 500_000, [5], 1_000, [0])

@@ -3,6 +3,7 @@ use frame::MOST_PANEL;
 use jobstate::Saying;
 use jobstate::Stepped;
 use jobstate::within;
+use lines::PANEL_ROOM;
 ghost use mathlib.Core.Path.{_≡_};
 ghost use lib.ListN.{length};
 ghost use Rattle.rules.specs.Job.{textOf};
@@ -10,7 +11,7 @@ ghost use Rattle.jobstate.specs.State.{sayingFrom};
 ghost use Rattle.texts.specs.Text.{continues, onto};
 
 // Bytes of the longest text of a command: a line for each unit of a panel.
-pub const TEXT_ROOM: usize = 4400;
+pub const TEXT_ROOM: usize = PANEL_ROOM;
 
 // Whether the stream goes on after what a command says.
 pub fn continues(stepped: Stepped) -> bool
