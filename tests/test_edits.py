@@ -35,7 +35,5 @@ def test_edits_fit(t):
 
 
 def test_crates_have_edits(t):
-    """A crate with code that promises something has edits; the search for a bound promises nothing."""
-    for source in sorted(CRATES.glob("*/src")):
-        if "ensures" in "".join(path.read_text() for path in source.rglob("*.rt")):
-            t.check(any((source.parent / "must-fail").glob("*.edit")), f"{source.parent.name} has no must-fail edit")
+    for crate in sorted(CRATES.iterdir()):
+        t.check(any((crate / "must-fail").glob("*.edit")), f"{crate.name} has no must-fail edit")

@@ -120,21 +120,6 @@ pub fn is_checked(
     many == z
 }
 
-// One unit in sixteen is asked first: where none of them is near, as with random numbers that are not spread, a whole pass would find too few.
-pub fn is_worth(turnovers: &[u64], randoms: &[u32], gaps: &[u64], start: u32, reach: u64) -> bool
-    requires { ⌜ Units (now turnovers) (now randoms) (now gaps) start × Reach (now turnovers) (now gaps) reach ⌝ }
-{
-    let mut i: usize = 0;
-    while i < turnovers.len() {
-        let key = keys::unit_key(turnovers, randoms, gaps, start, i);
-        if is_near(key, reach) {
-            return true;
-        }
-        i += 16;
-    }
-    false
-}
-
 // Unit i is within a bound.
 pub fn is_within(
     turnovers: &[u64],

@@ -133,6 +133,21 @@ fn nothing(reach: u64) -> Found
     }
 }
 
+// One unit in sixteen is asked first: where none of them is near, as with random numbers that are not spread, a whole pass would find too few.
+fn is_worth(turnovers: &[u64], randoms: &[u32], gaps: &[u64], start: u32, reach: u64) -> bool
+    requires { ⌜ Units (now turnovers) (now randoms) (now gaps) start × Reach (now turnovers) (now gaps) reach ⌝ }
+{
+    let mut i: usize = 0;
+    while i < turnovers.len() {
+        let key = keys::unit_key(turnovers, randoms, gaps, start, i);
+        if bounds::is_near(key, reach) {
+            return true;
+        }
+        i += 16;
+    }
+    false
+}
+
 // Looks for a bound of z units. It is not sure where the short list is too short or too long, or where the check fails.
 pub fn find(
     turnovers: &[u64],
@@ -145,7 +160,7 @@ pub fn find(
     requires { ⌜ Units (now turnovers) (now randoms) (now gaps) start × Reach (now turnovers) (now gaps) reach ⌝ }
     ensures { λ r. ⌜ (r .sure ≡ true → IsFound (now (turnovers .entry)) (now (randoms .entry)) (now (gaps .entry)) start reach z r) ⌝ }
 {
-    if !bounds::is_worth(turnovers, randoms, gaps, start, reach) {
+    if !is_worth(turnovers, randoms, gaps, start, reach) {
         return nothing(reach);
     }
     let list = collect(turnovers, randoms, gaps, start, reach);

@@ -2,10 +2,10 @@
 use native.Mathlib.Omega.{arith}
 use Prim.Native.Nat.{_-_, _≤_}
 use lib.ListN.{length}
 use Rattle.bounds.proofs.Terms.{reach-low}
 use borrow.Author.Needs.{needs}
-use Rattle.bounds.proofs.is_worth.Statement.{statement}
-use Rattle.bounds.proofs.is_worth.Tie as tie
+use Rattle.shortlist.proofs.is_worth.Statement.{statement}
+use Rattle.shortlist.proofs.is_worth.Tie as tie
 
 abbrev Inv-loop : tie.InvT-loop
 Inv-loop turnovers randoms gaps start reach i₀ i = 0 ≤ i
