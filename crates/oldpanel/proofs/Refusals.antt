@@ -1,11 +1,10 @@
 -- The order of refusals 1 to 7: which one is given, and what is known where they let pass.
 use Prim.Native.Nat.{ℕ, zero, suc, _<_, _≤_}
-use mathlib.Core.Bool.{Bool, true, false}
+use mathlib.Core.Bool.{true, false}
 use mathlib.Core.Path.{_≡_, refl, sym, _∙_}
 use mathlib.Core.List.{List}
 use native.Mathlib.Omega.{arith}
 use lib.ListN.{length}
-use lib.Dec.{ltb}
 use borrow.Author.Tests.{lt-ltb, le-ltb, ltb-false, not-false}
 use Rattle.rules.specs.Limits.{fractionScale, mostPanel}
 use Rattle.rules.specs.Tests.{refuse}
@@ -13,7 +12,7 @@ use Rattle.rules.specs.Lists.{rising}
 use Rattle.rules.specs.TakeAll.{Frame}
 use Rattle.rules.specs.Draw.{frameRefusal}
 use Rattle.rules.specs.Rotation.{badOldPanel}
-use Rattle.rules.proofs.Tests.{or-false, refuse-none}
+use Rattle.rules.proofs.Tests.{or-false, refuse-none, refuse-keeps}
 use Rattle.frame.proofs.Refusals.{goes, stops}
 use Rattle.refusals.specs.declared.Refusal.{Refusal}
 use Rattle.refusals.specs.Number.{numberOf}
@@ -47,22 +46,14 @@ pub record OldPassed (panel : List ℕ) (fraction room : ℕ) : Type 0 where
   pub rises : rising panel ≡ true
 
 old-stops : (panel : List ℕ) (fraction room later : ℕ) → (oldRefusal panel fraction room 0 ≡ 0 → ⊥) → oldRefusal panel fraction room later ≡ oldRefusal panel fraction room 0
-unfolding oldRefusal refuse
-old-stops panel fraction room later = go (ltb room (length panel)) (badOldPanel panel fraction)
-  where
-    go : (a b : Bool) → (refuse a 6 (refuse b 7 0) ≡ 0 → ⊥) → refuse a 6 (refuse b 7 later) ≡ refuse a 6 (refuse b 7 0)
-    go true b some = refl
-    go false true some = refl
-    go false false some = absurd (some refl)
+unfolding oldRefusal
+old-stops panel fraction room later = refuse-keeps _ 6 _ _ (refuse-keeps _ 7 _ _ (λ h. absurd (h refl)))
 
 old-goes : (panel : List ℕ) (fraction room later : ℕ) → oldRefusal panel fraction room 0 ≡ 0 → oldRefusal panel fraction room later ≡ later
-unfolding oldRefusal refuse
-old-goes panel fraction room later = go (ltb room (length panel)) (badOldPanel panel fraction)
-  where
-    go : (a b : Bool) → refuse a 6 (refuse b 7 0) ≡ 0 → refuse a 6 (refuse b 7 later) ≡ later
-    go true b none = absurd (let z : _≡_ {A = ℕ} 6 0 = none in omega arith)
-    go false true none = absurd (let z : _≡_ {A = ℕ} 7 0 = none in omega arith)
-    go false false none = refl
+unfolding oldRefusal
+old-goes panel fraction room later none =
+    let long = refuse-none _ _ _ none in
+    panel-passed panel fraction room later (ltb-false _ _ (long .0)) (refuse-none _ _ _ (long .1) .0)
 
 old-passed : (panel : List ℕ) (fraction room : ℕ) → oldRefusal panel fraction room 0 ≡ 0 → OldPassed panel fraction room
 unfolding oldRefusal badOldPanel
