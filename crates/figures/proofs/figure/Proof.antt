@@ -50,12 +50,6 @@ mul-result c =
     let l : c .link .result ≤ highestRelative * linkScale = omega (arith, c .link .ensures, mean-most _ _ highestRelative linkScale k) in
     omega (arith, mul-le-mul (s .pre .1 .inRange) l)
 
-mul-result-2 : tie.Need-mul-result-2
-mul-result-2 c = search needs
-
-div-result : tie.Need-div-result
-div-result c = search needs
-
 returns : tie.Need-returns
 unfolding figureAt link
 returns c =
@@ -68,11 +62,4 @@ returns c =
 pub figure-spec : {M : Type 1} → statement M
 figure-spec =
     tie.close
-    (tie.spec
-    slice-aggregate-weighted-sums
-    weighted-sums-requires
-    link-requires
-    mul-result
-    mul-result-2
-    div-result
-    returns)
+    (tie.spec slice-aggregate-weighted-sums weighted-sums-requires link-requires mul-result (λ c. search needs) (λ c. search needs) returns)

@@ -12,9 +12,6 @@ use borrow.Author.Needs.{needs}
 use Rattle.figures.proofs.judge_call.Statement.{statement}
 use Rattle.figures.proofs.judge_call.Tie as tie
 
-is-broken-requires : tie.Need-is-broken-requires
-is-broken-requires c κs = search needs
-
 returns : tie.Need-returns
 unfolding callRefusal refuse
 returns c = simp (sym (c .before .is-broken .ensures) ∙ c .if1 .taken)
@@ -58,11 +55,4 @@ returns-4 c =
 pub judge-call-spec : {M : Type 1} → statement M
 judge-call-spec =
     tie.close
-    (tie.spec
-    is-broken-requires
-    returns
-    returns-2
-    slice-aggregate-any-bad-relative
-    any-bad-relative-requires
-    returns-3
-    returns-4)
+    (tie.spec (λ c κs. search needs) returns returns-2 slice-aggregate-any-bad-relative any-bad-relative-requires returns-3 returns-4)

@@ -6,9 +6,6 @@ use borrow.Author.Needs.{needs}
 use Rattle.figures.proofs.judge_last.Statement.{statement}
 use Rattle.figures.proofs.judge_last.Tie as tie
 
-bad-index-requires : tie.Need-bad-index-requires
-bad-index-requires c κs = search needs
-
 returns : tie.Need-returns
 unfolding refuse
 returns c = simp (sym (c .before .bad-index .ensures) ∙ c .if1 .taken)
@@ -22,4 +19,4 @@ unfolding refuse
 returns-3 c = simp (sym (c .before .before .bad-index .ensures) ∙ c .before .if1 .left, lt-leb _ _ (c .if2 .left))
 
 pub judge-last-spec : {M : Type 1} → statement M
-judge-last-spec = tie.close (tie.spec bad-index-requires returns returns-2 returns-3)
+judge-last-spec = tie.close (tie.spec (λ c κs. search needs) returns returns-2 returns-3)

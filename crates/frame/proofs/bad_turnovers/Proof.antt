@@ -41,23 +41,11 @@ Inv-loop turnovers total₀ i₀ total i =
 abbrev μ-loop : tie.MeasureT-loop
 μ-loop turnovers total₀ i₀ total i = length turnovers - i
 
-loop-holds : tie.Need-loop-holds Inv-loop μ-loop
-loop-holds c = (omega arith, omega arith, omega arith, refl)
-
-mul-turnover : tie.Need-mul-turnover Inv-loop μ-loop
-mul-turnover c = search needs
-
-shared-slice-read-turnover : tie.Need-shared-slice-read-turnover Inv-loop μ-loop
-shared-slice-read-turnover c = omega arith
-
 returns : tie.Need-returns Inv-loop μ-loop
 returns c =
     let turnovers = c .before .before .before .before .args .turnovers .now in
     let i = c .before .before .before .loop .i in
     sym (zero-bad turnovers (sym (c .before .before .before .loop .inv .3) ∙ any-here isZero turnovers i (search needs) (eq-eqb _ _ (c .if1 .taken))))
-
-sub-if2 : tie.Need-sub-if2 Inv-loop μ-loop
-sub-if2 c = omega arith
 
 returns-2 : tie.Need-returns-2 Inv-loop μ-loop
 returns-2 c =
@@ -65,15 +53,6 @@ returns-2 c =
     let i = c .before .before .before .before .loop .i in
     let next = sum-next turnovers i (search needs) in
     sym (over-bad _ (omega arith))
-
-add-total : tie.Need-add-total Inv-loop μ-loop
-add-total c = omega arith
-
-add-i : tie.Need-add-i Inv-loop μ-loop
-add-i c = omega arith
-
-loop-less : tie.Need-loop-less Inv-loop μ-loop
-loop-less c = omega arith
 
 loop-again : tie.Need-loop-again Inv-loop μ-loop
 loop-again c =
@@ -96,17 +75,5 @@ returns-3 c =
 pub bad-turnovers-spec : {M : Type 1} → statement M
 bad-turnovers-spec =
     tie.close
-    (tie.spec
-    Inv-loop
-    μ-loop
-    loop-holds
-    mul-turnover
-    shared-slice-read-turnover
-    returns
-    sub-if2
-    returns-2
-    add-total
-    add-i
-    loop-less
-    loop-again
-    returns-3)
+    (tie.spec Inv-loop μ-loop (λ c. (omega arith, omega arith, omega arith, refl)) (λ c. search needs) (λ c. omega arith) returns (λ c. omega arith)
+    returns-2 (λ c. omega arith) (λ c. omega arith) (λ c. omega arith) loop-again returns-3)

@@ -18,14 +18,8 @@ use Rattle.jobcalls.proofs.on_close.Tie as tie
 places : (s : tie.Start) → length (s .args .job .pending) ≡ mostPanel
 places s = search needs
 
-said-requires : tie.Need-said-requires
-said-requires c κs = search needs
-
 returns : tie.Need-returns
 returns c = no-chain (c .said .result) (c .before .before .before .args .job) _ (not-true _ (c .before .if1 .taken)) (c .said .ensures .0) (c .said .ensures .1)
-
-within-requires : tie.Need-within-requires
-within-requires c κs = search needs
 
 array-share-prefix-pending : tie.Need-array-share-prefix-pending
 array-share-prefix-pending c =
@@ -36,24 +30,6 @@ slice-aggregate-close : tie.Need-slice-aggregate-close
 slice-aggregate-close c =
     let s = c .before .before .before .before .before .before in
     lent-length (s .args .job .pending) (c .before .before .before .within .result) (s .args .job .size) mostPanel (places s) (c .before .before .before .within .ensures)
-
-close-requires : tie.Need-close-requires
-close-requires c κs = search needs
-
-enum-known-answer : tie.Need-enum-known-answer
-enum-known-answer c = search needs
-
-said-requires-2 : tie.Need-said-requires-2
-said-requires-2 c κs = search needs
-
-enum-known-answer-2 : tie.Need-enum-known-answer-2
-enum-known-answer-2 c = search needs
-
-with-chain-requires : tie.Need-with-chain-requires
-with-chain-requires c κs = search needs
-
-said-requires-3 : tie.Need-said-requires-3
-said-requires-3 c κs = search needs
 
 returns-2 : tie.Need-returns-2
 returns-2 c =
@@ -73,17 +49,5 @@ returns-3 c =
 pub on-close-spec : {M : Type 1} → statement M
 on-close-spec =
     tie.close
-    (tie.spec
-    said-requires
-    returns
-    within-requires
-    array-share-prefix-pending
-    slice-aggregate-close
-    close-requires
-    enum-known-answer
-    said-requires-2
-    enum-known-answer-2
-    with-chain-requires
-    said-requires-3
-    returns-2
-    returns-3)
+    (tie.spec (λ c κs. search needs) returns (λ c κs. search needs) array-share-prefix-pending slice-aggregate-close (λ c κs. search needs)
+    (λ c. search needs) (λ c κs. search needs) (λ c. search needs) (λ c κs. search needs) (λ c κs. search needs) returns-2 returns-3)

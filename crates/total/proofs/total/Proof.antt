@@ -11,9 +11,6 @@ use borrow.Author.Needs.{needs}
 use Rattle.total.proofs.total.Statement.{statement}
 use Rattle.total.proofs.total.Tie as tie
 
-bad-sectors-requires : tie.Need-bad-sectors-requires
-bad-sectors-requires c κs = search needs
-
 returns : tie.Need-returns
 unfolding totalAnswer refuse
 returns c =
@@ -36,4 +33,4 @@ returns-2 c =
     ∙ sym (ap (λ (b : Bool). totalBy (refuse b 14 0) (totalOf (a .shares .now) (a .indices .now))) e)
 
 pub total-spec : {M : Type 1} → statement M
-total-spec = tie.close (tie.spec bad-sectors-requires returns weighted-requires returns-2)
+total-spec = tie.close (tie.spec (λ c κs. search needs) returns weighted-requires returns-2)

@@ -17,21 +17,6 @@ returns c =
     let short = lt-ltb (length (c .before .before .before .args .lent .now)) recordPlaces (c .if1 .taken) in
     (rw short, rw short)
 
-load-requires : tie.Need-load-requires
-load-requires c κs = search needs
-
-close-requires : tie.Need-close-requires
-close-requires c κs = search needs
-
-store-requires : tie.Need-store-requires
-store-requires c κs = search needs
-
-figure-of-requires : tie.Need-figure-of-requires
-figure-of-requires c κs = search needs
-
-same-length : tie.Need-same-length
-same-length c = search needs
-
 returns-2 : tie.Need-returns-2
 unfolding listAnswer listAfter
 returns-2 c =
@@ -50,11 +35,4 @@ returns-2 c =
 pub vougecress-close-spec : {M : Type 1} → statement M
 vougecress-close-spec =
     tie.close
-    (tie.spec
-    returns
-    load-requires
-    close-requires
-    store-requires
-    figure-of-requires
-    same-length
-    returns-2)
+    (tie.spec returns (λ c κs. search needs) (λ c κs. search needs) (λ c κs. search needs) (λ c κs. search needs) (λ c. search needs) returns-2)

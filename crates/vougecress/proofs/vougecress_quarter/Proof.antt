@@ -14,15 +14,6 @@ returns : tie.Need-returns
 unfolding listAnswer
 returns c = rw (lt-ltb (length (c .before .before .before .args .lent .now)) recordPlaces (c .if1 .taken))
 
-load-requires : tie.Need-load-requires
-load-requires c κs = search needs
-
-quarter-requires : tie.Need-quarter-requires
-quarter-requires c κs = search needs
-
-figure-of-requires : tie.Need-figure-of-requires
-figure-of-requires c κs = search needs
-
 returns-2 : tie.Need-returns-2
 unfolding listAnswer
 returns-2 c =
@@ -34,4 +25,4 @@ returns-2 c =
 
 pub vougecress-quarter-spec : {M : Type 1} → statement M
 vougecress-quarter-spec =
-    tie.close (tie.spec returns load-requires quarter-requires figure-of-requires returns-2)
+    tie.close (tie.spec returns (λ c κs. search needs) (λ c κs. search needs) (λ c κs. search needs) returns-2)

@@ -16,15 +16,6 @@ use borrow.Author.Needs.{needs}
 use Rattle.chain.proofs.Chain.close.Statement.{statement}
 use Rattle.chain.proofs.Chain.close.Tie as tie
 
-judge-call-requires : tie.Need-judge-call-requires
-judge-call-requires c κs = search needs
-
-enum-known-entry : tie.Need-enum-known-entry
-enum-known-entry c = search needs
-
-enum-told : tie.Need-enum-told
-enum-told c = search needs
-
 figure-requires : tie.Need-figure-requires
 unfolding held
 figure-requires c κs =
@@ -90,12 +81,6 @@ judge-close-requires c κs =
     let u : r .units ≤ mostPanel = a .sound .most in
     (units-fit r ps places a, omega (arith, n, u))
 
-enum-known-rest : tie.Need-enum-known-rest
-enum-known-rest c = search needs
-
-enum-told-2 : tie.Need-enum-told-2
-enum-told-2 c = search needs
-
 add-count : tie.Need-add-count
 add-count c =
     let r = recordOf (c .before .before .before .before .before .before .before .before .before .before .before .before .before .before .before .before .before .before .before .before .before .before .args .t1) in
@@ -155,19 +140,5 @@ returns-3 c =
 pub close-spec : {M : Type 1} → statement M
 close-spec =
     tie.close
-    (tie.spec
-    judge-call-requires
-    enum-known-entry
-    enum-told
-    figure-requires
-    array-borrow-prefix-next
-    slice-aggregate-rescale
-    rescale-requires
-    slice-aggregate-judge-close
-    judge-close-requires
-    enum-known-rest
-    enum-told-2
-    add-count
-    returns
-    returns-2
-    returns-3)
+    (tie.spec (λ c κs. search needs) (λ c. search needs) (λ c. search needs) figure-requires array-borrow-prefix-next slice-aggregate-rescale
+    rescale-requires slice-aggregate-judge-close judge-close-requires (λ c. search needs) (λ c. search needs) add-count returns returns-2 returns-3)

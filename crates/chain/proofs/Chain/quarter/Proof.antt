@@ -12,15 +12,6 @@ use borrow.Author.Needs.{needs}
 use Rattle.chain.proofs.Chain.quarter.Statement.{statement}
 use Rattle.chain.proofs.Chain.quarter.Tie as tie
 
-judge-call-requires : tie.Need-judge-call-requires
-judge-call-requires c κs = search needs
-
-enum-known-entry : tie.Need-enum-known-entry
-enum-known-entry c = search needs
-
-enum-told : tie.Need-enum-told
-enum-told c = search needs
-
 figure-requires : tie.Need-figure-requires
 unfolding held
 figure-requires c κs =
@@ -29,15 +20,6 @@ figure-requires c κs =
     let places : length (r .weights) ≡ mostPanel = search needs in
     let a = admitted r ps (sym (c .before .before .before .before .before .judge-call .ensures) ∙ ap verdictOf (c .before .before .before .enum-told .given .1)) in
     (units-fit r ps places a, reckonable r ps places a)
-
-judge-last-requires : tie.Need-judge-last-requires
-judge-last-requires c κs = search needs
-
-enum-known-last : tie.Need-enum-known-last
-enum-known-last c = search needs
-
-enum-told-2 : tie.Need-enum-told-2
-enum-told-2 c = search needs
 
 returns : tie.Need-returns
 unfolding answerOf after refusalOf
@@ -73,14 +55,5 @@ returns-3 c =
 pub quarter-spec : {M : Type 1} → statement M
 quarter-spec =
     tie.close
-    (tie.spec
-    judge-call-requires
-    enum-known-entry
-    enum-told
-    figure-requires
-    judge-last-requires
-    enum-known-last
-    enum-told-2
-    returns
-    returns-2
-    returns-3)
+    (tie.spec (λ c κs. search needs) (λ c. search needs) (λ c. search needs) figure-requires (λ c κs. search needs) (λ c. search needs)
+    (λ c. search needs) returns returns-2 returns-3)
