@@ -4,7 +4,8 @@ use mathlib.Core.Path.{_≡_, refl}
 use Prim.Native.Nat.{ℕ, suc}
 use mathlib.Core.List.{List, [], _∷_}
 use native.Mathlib.Omega.{arith}
-use Rattle.rules.specs.Chain.{Call, Answer}
+use Rattle.rules.specs.Refusals.{Judged}
+use Rattle.rules.specs.Chain.{Call}
 use Rattle.rules.specs.Direct.{Direct, Within, AllWithin, directAfter, numerator, denominator}
 use Rattle.rules.specs.Rotation.{Holds, times}
 
@@ -44,13 +45,13 @@ undefined-outside w = omega (arith, w .defined)
 -- "A refused call has no D and changes nothing": the call after it is judged by the same weights and the same m
 pub refused-passed :
     (d : Direct) (n f : ℕ) (ps qs : List ℕ) →
-    AllWithin d (Call.close ps ∷ Call.quarter qs ∷ []) (Answer.refused n ∷ Answer.figure f ∷ []) → Within f (numerator d qs) (denominator d) (d .m)
+    AllWithin d (Call.close ps ∷ Call.quarter qs ∷ []) (Judged.refused n ∷ Judged.given f ∷ []) → Within f (numerator d qs) (denominator d) (d .m)
 refused-passed d n f ps qs all = all .0
 
 -- a close "takes m as it stands", and the call after it the moved weights and one more
 pub close-counted :
     (d : Direct) (f h : ℕ) (ps qs : List ℕ) →
-    AllWithin d (Call.close ps ∷ Call.quarter qs ∷ []) (Answer.figure f ∷ Answer.figure h ∷ []) →
+    AllWithin d (Call.close ps ∷ Call.quarter qs ∷ []) (Judged.given f ∷ Judged.given h ∷ []) →
     Within f (numerator d ps) (denominator d) (d .m) × Within h (numerator (directAfter d (Call.close ps)) qs) (denominator (directAfter d (Call.close ps))) (suc (d .m))
 close-counted d f h ps qs all = (all .0, all .1 .0)
 

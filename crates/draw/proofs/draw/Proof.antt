@@ -3,7 +3,7 @@ use mathlib.Core.Path.{_≡_, sym, ap, _∙_}
 use borrow.Author.Needs.{needs}
 use Prim.Native.Nat.{ℕ}
 use Rattle.rules.specs.TakeAll.{frame}
-use Rattle.rules.specs.Draw.{drawn, drawRefusal}
+use Rattle.rules.specs.Draw.{drawRefusal}
 use Rattle.refusals.specs.Number.{numberOf, verdictOf}
 use Rattle.draw.proofs.Refusals.{answer-refused, numbers-refused, weights-refused, answer-accepted}
 use Rattle.draw.proofs.draw.Statement.{statement}

@@ -8,7 +8,6 @@ use lib.Seq.{length-take-le}
 use Rattle.rules.specs.Limits.{highestRelative, linkScale, relativeScale}
 use Rattle.rules.specs.Lists.{products}
 use Rattle.rules.specs.Chain.{link, figureAt}
-use Rattle.passes.proofs.Lists.{products-bound}
 use Rattle.passes.specs.declared.Sums.{Sums}
 use Rattle.figures.proofs.Reckoning.{mean-most}
 use borrow.Author.Needs.{needs}

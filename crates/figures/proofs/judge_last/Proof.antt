@@ -1,7 +1,7 @@
 -- `judge_last` gives 23, 24 or none as its two tests say.
 use mathlib.Core.Path.{sym, _∙_}
 use borrow.Author.Tests.{le-leb, lt-leb}
-use Rattle.rules.specs.Tests.{refuse}
+use Rattle.rules.specs.Refusals.{refuse, _then_}
 use borrow.Author.Needs.{needs}
 use Rattle.figures.proofs.judge_last.Statement.{statement}
 use Rattle.figures.proofs.judge_last.Tie as tie

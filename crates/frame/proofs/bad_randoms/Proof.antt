@@ -7,7 +7,6 @@ use borrow.Author.Needs.{needs}
 use borrow.Author.Tests.{le-leb, lt-leb}
 use Rattle.rules.specs.Lists.{anyOf}
 use Rattle.rules.specs.Draw.{badRandom}
-use Rattle.frame.proofs.Lists.{any-here, any-next, any-end}
 use Rattle.frame.proofs.bad_randoms.Statement.{statement}
 use Rattle.frame.proofs.bad_randoms.Tie as tie
 

@@ -10,10 +10,10 @@ use lib.ListN.{length, drop}
 use borrow.Author.Needs.{needs}
 use borrow.Author.Tests.{eq-eqb, ne-eqb, lt-ltb, le-ltb}
 use Rattle.rules.proofs.Tests.{or-on, or-second, or-off}
+use Rattle.rules.proofs.Lists.{sum-step, sum-end}
 use Rattle.rules.specs.Limits.{mostTurnover}
 use Rattle.rules.specs.Lists.{sum, anyOf}
 use Rattle.rules.specs.TakeAll.{badTurnovers}
-use Rattle.frame.proofs.Lists.{any-here, any-next, any-end, sum-next, sum-end}
 use Rattle.frame.proofs.bad_turnovers.Statement.{statement}
 use Rattle.frame.proofs.bad_turnovers.Tie as tie
 
@@ -51,14 +51,14 @@ returns-2 : tie.Need-returns-2 Inv-loop μ-loop
 returns-2 c =
     let turnovers = c .before .before .before .before .before .args .turnovers .now in
     let i = c .before .before .before .before .loop .i in
-    let next = sum-next turnovers i (search needs) in
+    let next = sum-step turnovers i (search needs) in
     sym (over-bad _ (omega arith))
 
 loop-again : tie.Need-loop-again Inv-loop μ-loop
 loop-again c =
     let turnovers = c .before .before .before .before .before .args .turnovers .now in
     let i = c .before .before .before .before .loop .i in
-    let next = sum-next turnovers i (search needs) in (
+    let next = sum-step turnovers i (search needs) in (
       omega arith,
       omega arith,
       omega arith,

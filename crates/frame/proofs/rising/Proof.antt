@@ -5,7 +5,7 @@ use native.Mathlib.Omega.{arith}
 use lib.ListN.{length, getD, drop}
 use borrow.Author.Needs.{needs}
 use Rattle.rules.specs.Lists.{rising, risesFrom}
-use Rattle.frame.proofs.Lists.{rises-start, rises-next, rises-stop, rises-end}
+use Rattle.rules.proofs.Lists.{rises-start, rises-next, rises-stop, rises-end}
 use Rattle.frame.proofs.rising.Statement.{statement}
 use Rattle.frame.proofs.rising.Tie as tie
 

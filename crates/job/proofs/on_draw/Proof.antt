@@ -6,7 +6,7 @@ use lib.ListN.{length, take}
 use Rattle.rules.specs.Limits.{mostHeld, mostPanel}
 use Rattle.rules.specs.TakeAll.{Frame, frame}
 use Rattle.rules.specs.Draw.{drawAnswer, drawNumbers, drawWeights}
-use Rattle.rules.specs.Job.{drawnJob}
+use Rattle.rules.specs.Job.{withPanel}
 use Rattle.draw.specs.Answer.{answerOf}
 use Rattle.jobstate.specs.State.{jobOf}
 use Rattle.jobstate.proofs.FirstPlaces.{lent-within, lent-length, lent}
@@ -62,7 +62,7 @@ returns-2 c =
     let a = sym (ap answerOf (c .before .enum-told .given .1)) ∙ c .before .before .before .before .before .draw .ensures .0 ∙ ap (λ (x : Frame). drawAnswer x (s .args .size) (s .args .start) (c .before .before .before .before .before .before .before .before .before .before .before .before .places .result) (c .before .before .before .before .before .before .before .before .before .before .before .no-weights .result)) f in
     draw-accepted (s .args .job) (s .args .size) (s .args .start) _ _ hn hw (c .drawn .result) _ _ _ a (c .drawn .ensures .0)
     (c .before .before .before .before .before .draw .ensures .1 .0 ∙ ap (λ (x : Frame). drawNumbers x (s .args .size) (s .args .start) (c .before .before .before .before .before .before .before .before .before .before .before .before .places .result) (c .before .before .before .before .before .before .before .before .before .before .before .no-weights .result)) f)
-    (c .drawn .ensures .1 ∙ ap (λ (l : List ℕ). drawnJob (jobOf (s .args .job)) (min (s .args .size) mostPanel) (take (s .args .size) l)) (c .before .before .before .before .before .draw .ensures .1 .1 ∙ ap (λ (x : Frame). drawWeights x (s .args .size) (s .args .start) (c .before .before .before .before .before .before .before .before .before .before .before .before .places .result) (c .before .before .before .before .before .before .before .before .before .before .before .no-weights .result)) f))
+    (c .drawn .ensures .1 ∙ ap (λ (l : List ℕ). withPanel (jobOf (s .args .job)) (min (s .args .size) mostPanel) (take (s .args .size) l)) (c .before .before .before .before .before .draw .ensures .1 .1 ∙ ap (λ (x : Frame). drawWeights x (s .args .size) (s .args .start) (c .before .before .before .before .before .before .before .before .before .before .before .before .places .result) (c .before .before .before .before .before .before .before .before .before .before .before .no-weights .result)) f))
 
 pub on-draw-spec : {M : Type 1} → statement M
 on-draw-spec =

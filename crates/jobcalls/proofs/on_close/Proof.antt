@@ -8,7 +8,7 @@ use mathlib.Core.List.{List}
 use Prim.Native.Nat.{ℕ}
 use lib.ListN.{length}
 use Rattle.rules.specs.Limits.{mostPanel}
-use Rattle.rules.specs.Chain.{Call, answerOf, after}
+use Rattle.rules.specs.Chain.{Call, callAnswer, after}
 use Rattle.chain.specs.Record.{recordOf}
 use borrow.Author.Needs.{needs}
 use Rattle.jobcalls.proofs.on_close.Statement.{statement}
@@ -35,14 +35,14 @@ returns-2 : tie.Need-returns-2
 returns-2 c =
     let j = c .before .before .before .before .before .before .before .before .before .before .before .args .job in
     let ps = lent (j .pending) (c .before .before .before .before .before .before .before .before .within .result) (j .size) mostPanel (places (c .before .before .before .before .before .before .before .before .before .before .before)) (c .before .before .before .before .before .before .before .before .within .ensures) in
-    let a = sym (ap answerFrom (c .before .before .answer .given .1)) ∙ c .before .before .before .before .close .ensures .0 ∙ ap (λ (l : List ℕ). answerOf (recordOf (j .chain)) (Call.close l)) ps in
+    let a = sym (ap answerFrom (c .before .before .answer .given .1)) ∙ c .before .before .before .before .close .ensures .0 ∙ ap (λ (l : List ℕ). callAnswer (recordOf (j .chain)) (Call.close l)) ps in
     call-refused (c .said2 .result) j _ _ (not-false _ (c .before .before .before .before .before .before .before .before .before .if1 .left)) a (c .said2 .ensures .0) (c .said2 .ensures .1)
 
 returns-3 : tie.Need-returns-3
 returns-3 c =
     let j = c .before .before .before .before .before .before .before .before .before .before .before .before .before .args .job in
     let ps = lent (j .pending) (c .before .before .before .before .before .before .before .before .before .before .within .result) (j .size) mostPanel (places (c .before .before .before .before .before .before .before .before .before .before .before .before .before)) (c .before .before .before .before .before .before .before .before .before .before .within .ensures) in
-    let a = sym (ap answerFrom (c .before .before .before .before .answer2 .given .1)) ∙ c .before .before .before .before .before .before .close .ensures .0 ∙ ap (λ (l : List ℕ). answerOf (recordOf (j .chain)) (Call.close l)) ps in
+    let a = sym (ap answerFrom (c .before .before .before .before .answer2 .given .1)) ∙ c .before .before .before .before .before .before .close .ensures .0 ∙ ap (λ (l : List ℕ). callAnswer (recordOf (j .chain)) (Call.close l)) ps in
     let k = c .before .before .before .before .before .before .close .ensures .1 ∙ ap (λ (l : List ℕ). after (recordOf (j .chain)) (Call.close l)) ps in
     call-figure (c .said3 .result) j _ _ _ _ _ (not-false _ (c .before .before .before .before .before .before .before .before .before .before .before .if1 .left)) a k (c .before .with-chain .ensures) (c .said3 .ensures .0) (c .said3 .ensures .1) (λ ns ws. refl)
 

@@ -6,7 +6,7 @@ use Prim.Native.Nat.{_-_, _≤_}
 use lib.ListN.{length, drop}
 use Rattle.rules.specs.Lists.{anyPair}
 use Rattle.rules.specs.Chain.{badRelative}
-use Rattle.passes.proofs.Lists.{pair-found, pair-next, pair-none}
+use Rattle.rules.proofs.Lists.{pair-found, pair-next, pair-none}
 use Rattle.openinput.proofs.any_bad_update.Statement.{statement}
 use Rattle.openinput.proofs.any_bad_update.Tie as tie
 

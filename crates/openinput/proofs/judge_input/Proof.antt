@@ -1,7 +1,7 @@
 -- `judge_input` gives 9 to 13 or none as its tests say; once 9 does not apply the lists are short and of one length.
 use native.Mathlib.Omega.{arith}
 use mathlib.Core.Path.{sym, _∙_}
-use Rattle.rules.specs.Tests.{refuse}
+use Rattle.rules.specs.Refusals.{refuse, _then_}
 use Rattle.openinput.specs.Input.{inputRefusal}
 use Rattle.openinput.proofs.Input.{even}
 use borrow.Author.Needs.{needs}

@@ -8,7 +8,7 @@ use native.Mathlib.Numerals.{add-one}
 use lib.ListN.{length, getD, drop, length-set}
 use Rattle.rules.specs.Limits.{shareScale, relativeScale}
 use Rattle.rules.specs.Chain.{badWeight, shared}
-use Rattle.passes.proofs.Lists.{product-le, scaled-at}
+use Rattle.rules.proofs.Lists.{product-le, scaled-at}
 use Rattle.openweights.specs.Places.{lowWeights}
 use Rattle.openweights.proofs.Filling.{openingAt, filled, filled-none, filled-step, filled-all, low-shared, low-opening, low-next, low-none}
 use Rattle.openweights.proofs.fill.Statement.{statement}

@@ -4,7 +4,7 @@ use Prim.Native.Nat.{_-_, _≤_}
 use lib.ListN.{length, drop}
 use Rattle.rules.specs.Lists.{anyPair}
 use Rattle.rules.specs.Chain.{badWeight}
-use Rattle.passes.proofs.Lists.{pair-found, pair-next, pair-none}
+use Rattle.rules.proofs.Lists.{pair-found, pair-next, pair-none}
 use native.Mathlib.Omega.{arith}
 use borrow.Author.Needs.{needs}
 use Rattle.passes.proofs.any_low.Statement.{statement}

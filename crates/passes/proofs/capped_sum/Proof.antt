@@ -5,7 +5,7 @@ use Prim.Native.Nat.{_+_, _-_, _≤_}
 use lib.ListN.{length, drop}
 use Rattle.rules.specs.Limits.{mostWeight}
 use Rattle.rules.specs.Lists.{sum}
-use Rattle.passes.proofs.Lists.{sum-step, sum-end}
+use Rattle.rules.proofs.Lists.{sum-step, sum-end}
 use Rattle.passes.proofs.capped_sum.Statement.{statement}
 use Rattle.passes.proofs.capped_sum.Tie as tie
 

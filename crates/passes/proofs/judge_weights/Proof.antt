@@ -2,7 +2,7 @@
 use mathlib.Core.Path.{sym, _∙_}
 use borrow.Author.Tests.{lt-ltb, le-ltb}
 use Rattle.rules.specs.Limits.{mostWeight}
-use Rattle.rules.specs.Tests.{refuse}
+use Rattle.rules.specs.Refusals.{refuse, _then_}
 use Rattle.passes.specs.WeightRefusal.{weightRefusal}
 use Rattle.weights.proofs.Capped.{cut-over}
 use borrow.Author.Needs.{needs}

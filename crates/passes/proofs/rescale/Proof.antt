@@ -5,7 +5,7 @@ use mathlib.Core.Path.{_≡_, refl, sym, ap, _∙_}
 use Prim.Native.Nat.{ℕ, _-_, _≤_, _<_}
 use native.Mathlib.Numerals.{add-one}
 use lib.ListN.{length, getD, length-set}
-use Rattle.passes.proofs.Lists.{product-le, scaledTo, scaledTo-none, scaledTo-at, scaledTo-step, scaledTo-all}
+use Rattle.rules.proofs.Lists.{product-le, scaledTo, scaledTo-none, scaledTo-at, scaledTo-step, scaledTo-all}
 use Rattle.passes.proofs.rescale.Statement.{statement}
 use Rattle.passes.proofs.rescale.Tie as tie
 

@@ -4,7 +4,7 @@ use mathlib.Core.Path.{_≡_}
 use Prim.Native.Nat.{_+_, _-_, _≤_, _<_}
 use lib.ListN.{length, drop}
 use Rattle.rules.specs.Lists.{sum, products}
-use Rattle.passes.proofs.Lists.{sum-step, sum-end, products-step, products-end}
+use Rattle.rules.proofs.Lists.{sum-step, sum-end, products-step, products-end}
 use Rattle.passes.proofs.weighted_sums.Statement.{statement}
 use Rattle.passes.proofs.weighted_sums.Tie as tie
 

@@ -7,9 +7,9 @@ use lib.ListN.{length}
 use Rattle.rules.specs.Limits.{randomRange}
 use Rattle.rules.specs.Lists.{rising}
 use Rattle.rules.specs.TakeAll.{frame}
+use Rattle.rules.specs.Rotation.{required}
 use Rattle.frame.proofs.Accepted.{Accepted}
 use Rattle.oldpanel.proofs.Refusals.{OldPassed}
-use Rattle.rules.specs.Rotation.{required}
 use Rattle.group.specs.Group.{rulesGroup}
 use Rattle.members.proofs.Held.{hold-most}
 use Rattle.leavers.specs.Leaving.{firstStep}

@@ -10,7 +10,7 @@ use Rattle.rules.specs.Limits.{sectorScale}
 use Rattle.rules.specs.Lists.{sum, anyOf}
 use Rattle.rules.specs.Chain.{badIndex}
 use Rattle.rules.proofs.Tests.{or-second, or-none}
-use Rattle.passes.proofs.Lists.{sum-step, sum-end, one-found, one-next, one-none}
+use Rattle.rules.proofs.Lists.{sum-step, sum-end, one-found, one-next, one-none}
 use Rattle.total.proofs.bad_values.Statement.{statement}
 use Rattle.total.proofs.bad_values.Tie as tie
 

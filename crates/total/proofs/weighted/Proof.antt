@@ -4,7 +4,7 @@ use mathlib.Core.Path.{_≡_}
 use Prim.Native.Nat.{_+_, _-_, _≤_}
 use lib.ListN.{length, drop}
 use Rattle.rules.specs.Lists.{sum, products}
-use Rattle.passes.proofs.Lists.{products-step, products-end}
+use Rattle.rules.proofs.Lists.{products-step, products-end}
 use Rattle.total.proofs.weighted.Statement.{statement}
 use Rattle.total.proofs.weighted.Tie as tie
 

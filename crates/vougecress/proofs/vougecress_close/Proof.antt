@@ -3,7 +3,7 @@ use mathlib.Core.Path.{ap, _∙_}
 use borrow.Author.Tests.{lt-ltb, le-ltb}
 use mathlib.Core.List.{_++_}
 use lib.ListN.{length, drop}
-use Rattle.rules.specs.Chain.{Chain, Call, answerOf, after}
+use Rattle.rules.specs.Chain.{Chain, Call, callAnswer, after}
 use Rattle.boundary.specs.Figures.{figureFrom}
 use Rattle.boundary.specs.Record.{recordPlaces, recordList}
 use Rattle.vougecress.specs.Record.{listAnswer, listAfter}
@@ -26,7 +26,7 @@ returns-2 c =
     let a = l .before .before .before .before .before .args in
     let call = Call.close (a .relatives .now) in
     let long = le-ltb (length (a .lent .now)) recordPlaces (l .before .before .if1 .left) in
-    let told = k .close .ensures .0 ∙ ap (λ (r : Chain). answerOf r call) (l .load .ensures) in
+    let told = k .close .ensures .0 ∙ ap (λ (r : Chain). callAnswer r call) (l .load .ensures) in
     let next = k .close .ensures .1 ∙ ap (λ (r : Chain). after r call) (l .load .ensures) in (
       rw long (c .figure-of .ensures ∙ ap figureFrom told),
       rw long (s .store .ensures ∙ ap (λ (r : Chain). recordList r ++ drop recordPlaces (a .lent .now)) next),

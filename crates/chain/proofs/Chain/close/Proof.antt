@@ -7,7 +7,7 @@ use native.Mathlib.Numerals.{add-one}
 use lib.ListN.{length, take, drop}
 use Rattle.refusals.specs.Number.{numberOf, verdictOf}
 use Rattle.rules.specs.Limits.{mostPanel}
-use Rattle.rules.specs.Chain.{Call, held, callRefusal, figureOf, moved, lateRefusal, refusalOf, accepted, answerOf, after}
+use Rattle.rules.specs.Chain.{Call, held, callInputRefusal, figureOf, moved, figureRefusal, callRefusal, accepted, callAnswer, after}
 use Rattle.passes.specs.WeightRefusal.{weightRefusal}
 use Rattle.figures.specs.Steps.{recordWith, lastRefusal}
 use Rattle.chain.specs.Record.{recordOf}
@@ -21,7 +21,7 @@ unfolding held
 figure-requires c κs =
     let r = recordOf (c .before .before .before .before .before .before .before .before .before .before .args .t1) in
     let ps = c .before .before .before .before .before .before .before .before .before .before .args .p .now in
-    let e : callRefusal r ps 0 ≡ 0 = sym (c .before .before .before .before .before .judge-call .ensures) ∙ ap verdictOf (c .before .before .before .enum-told .given .1) in
+    let e : callInputRefusal r ps 0 ≡ 0 = sym (c .before .before .before .before .before .judge-call .ensures) ∙ ap verdictOf (c .before .before .before .enum-told .given .1) in
     let places : length (r .weights) ≡ mostPanel = search needs in
     let a = admitted r ps e in
     (units-fit r ps places a, reckonable r ps places a)
@@ -30,7 +30,7 @@ array-borrow-prefix-next : tie.Need-array-borrow-prefix-next
 array-borrow-prefix-next c =
     let r = recordOf (c .before .before .before .before .before .before .before .before .before .before .before .before .args .t1) in
     let ps = c .before .before .before .before .before .before .before .before .before .before .before .before .args .p .now in
-    let e : callRefusal r ps 0 ≡ 0 = sym (c .before .before .before .before .before .before .before .judge-call .ensures) ∙ ap verdictOf (c .before .before .before .before .before .enum-told .given .1) in
+    let e : callInputRefusal r ps 0 ≡ 0 = sym (c .before .before .before .before .before .before .before .judge-call .ensures) ∙ ap verdictOf (c .before .before .before .before .before .enum-told .given .1) in
     let places : length (r .weights) ≡ mostPanel = search needs in
     let a = admitted r ps e in
     units-fit r ps places a
@@ -40,7 +40,7 @@ unfolding held
 slice-aggregate-rescale c =
     let r = recordOf (c .before .before .before .before .before .before .before .before .before .before .before .before .before .args .t1) in
     let ps = c .before .before .before .before .before .before .before .before .before .before .before .before .before .args .p .now in
-    let e : callRefusal r ps 0 ≡ 0 = sym (c .before .before .before .before .before .before .before .before .judge-call .ensures) ∙ ap verdictOf (c .before .before .before .before .before .before .enum-told .given .1) in
+    let e : callInputRefusal r ps 0 ≡ 0 = sym (c .before .before .before .before .before .before .before .before .judge-call .ensures) ∙ ap verdictOf (c .before .before .before .before .before .before .enum-told .given .1) in
     let places : length (r .weights) ≡ mostPanel = search needs in
     let a = admitted r ps e in
     sym (length-held r ps places a)
@@ -50,7 +50,7 @@ unfolding held
 rescale-requires c κs =
     let r = recordOf (c .before .before .before .before .before .before .before .before .before .before .before .before .before .args .t1) in
     let ps = c .before .before .before .before .before .before .before .before .before .before .before .before .before .args .p .now in
-    let e : callRefusal r ps 0 ≡ 0 = sym (c .before .before .before .before .before .before .before .before .judge-call .ensures) ∙ ap verdictOf (c .before .before .before .before .before .before .enum-told .given .1) in
+    let e : callInputRefusal r ps 0 ≡ 0 = sym (c .before .before .before .before .before .before .before .before .judge-call .ensures) ∙ ap verdictOf (c .before .before .before .before .before .before .enum-told .given .1) in
     let places : length (r .weights) ≡ mostPanel = search needs in
     let a = admitted r ps e in
     (length-held r ps places a ∙ sym (a .long), products-fit r ps places a, omega arith)
@@ -60,7 +60,7 @@ unfolding held
 slice-aggregate-judge-close c =
     let r = recordOf (c .before .before .before .before .before .before .before .before .before .before .before .before .before .before .before .before .before .before .before .args .t1) in
     let ps = c .before .before .before .before .before .before .before .before .before .before .before .before .before .before .before .before .before .before .before .args .p .now in
-    let e : callRefusal r ps 0 ≡ 0 = sym (c .before .before .before .before .before .before .before .before .before .before .before .before .before .before .judge-call .ensures) ∙ ap verdictOf (c .before .before .before .before .before .before .before .before .before .before .before .before .enum-told .given .1) in
+    let e : callInputRefusal r ps 0 ≡ 0 = sym (c .before .before .before .before .before .before .before .before .before .before .before .before .before .before .judge-call .ensures) ∙ ap verdictOf (c .before .before .before .before .before .before .before .before .before .before .before .before .enum-told .given .1) in
     let places : length (r .weights) ≡ mostPanel = search needs in
     let a = admitted r ps e in
     let m : c .before .before .before .before .before .rescale .last .0 ≡ moved r ps = c .before .before .before .before .before .rescale .ensures in
@@ -72,7 +72,7 @@ unfolding held
 judge-close-requires c κs =
     let r = recordOf (c .before .before .before .before .before .before .before .before .before .before .before .before .before .before .before .before .before .before .before .args .t1) in
     let ps = c .before .before .before .before .before .before .before .before .before .before .before .before .before .before .before .before .before .before .before .args .p .now in
-    let e : callRefusal r ps 0 ≡ 0 = sym (c .before .before .before .before .before .before .before .before .before .before .before .before .before .before .judge-call .ensures) ∙ ap verdictOf (c .before .before .before .before .before .before .before .before .before .before .before .before .enum-told .given .1) in
+    let e : callInputRefusal r ps 0 ≡ 0 = sym (c .before .before .before .before .before .before .before .before .before .before .before .before .before .before .judge-call .ensures) ∙ ap verdictOf (c .before .before .before .before .before .before .before .before .before .before .before .before .enum-told .given .1) in
     let places : length (r .weights) ≡ mostPanel = search needs in
     let a = admitted r ps e in
     let m : c .before .before .before .before .before .rescale .last .0 ≡ moved r ps = c .before .before .before .before .before .rescale .ensures in
@@ -85,52 +85,52 @@ add-count : tie.Need-add-count
 add-count c =
     let r = recordOf (c .before .before .before .before .before .before .before .before .before .before .before .before .before .before .before .before .before .before .before .before .before .before .args .t1) in
     let ps = c .before .before .before .before .before .before .before .before .before .before .before .before .before .before .before .before .before .before .before .before .before .before .args .p .now in
-    let e : callRefusal r ps 0 ≡ 0 = sym (c .before .before .before .before .before .before .before .before .before .before .before .before .before .before .before .before .before .judge-call .ensures) ∙ ap verdictOf (c .before .before .before .before .before .before .before .before .before .before .before .before .before .before .before .enum-told .given .1) in
+    let e : callInputRefusal r ps 0 ≡ 0 = sym (c .before .before .before .before .before .before .before .before .before .before .before .before .before .before .before .before .before .judge-call .ensures) ∙ ap verdictOf (c .before .before .before .before .before .before .before .before .before .before .before .before .before .before .before .enum-told .given .1) in
     let places : length (r .weights) ≡ mostPanel = search needs in
     let a = admitted r ps e in
     omega (arith, a .sound .closes)
 
 returns : tie.Need-returns
-unfolding answerOf after refusalOf weightRefusal
+unfolding callAnswer after callRefusal weightRefusal
 returns c =
     let r = recordOf (c .before .before .before .before .before .before .before .before .args .t1) in
     let ps = c .before .before .before .before .before .before .before .before .args .p .now in
     let why = c .before .entry .given .0 .0 in
-    let e : numberOf why ≡ callRefusal r ps 0 = sym (ap verdictOf (c .before .entry .given .1)) ∙ c .before .before .before .judge-call .ensures in
-    let n : refusalOf r (Call.close ps) ≡ numberOf why = call-stops r ps (weightRefusal (held r) (moved r ps) (lateRefusal r ps)) why e in
+    let e : numberOf why ≡ callInputRefusal r ps 0 = sym (ap verdictOf (c .before .entry .given .1)) ∙ c .before .before .before .judge-call .ensures in
+    let n : callRefusal r (Call.close ps) ≡ numberOf why = call-stops r ps (weightRefusal (held r) (moved r ps) (figureRefusal r ps)) why e in
     (refused-answer _ (figureOf r ps) why n, refused-record _ r (accepted r (Call.close ps)) why n)
 
 returns-2 : tie.Need-returns-2
-unfolding answerOf after refusalOf lateRefusal weightRefusal held
+unfolding callAnswer after callRefusal figureRefusal weightRefusal held
 returns-2 c =
     let r = recordOf (c .before .before .before .before .before .before .before .before .before .before .before .before .before .before .before .before .before .before .before .before .before .before .before .args .t1) in
     let ps = c .before .before .before .before .before .before .before .before .before .before .before .before .before .before .before .before .before .before .before .before .before .before .before .args .p .now in
-    let e : callRefusal r ps 0 ≡ 0 = sym (c .before .before .before .before .before .before .before .before .before .before .before .before .before .before .before .before .before .before .judge-call .ensures) ∙ ap verdictOf (c .before .before .before .before .before .before .before .before .before .before .before .before .before .before .before .before .enum-told .given .1) in
+    let e : callInputRefusal r ps 0 ≡ 0 = sym (c .before .before .before .before .before .before .before .before .before .before .before .before .before .before .before .before .before .before .judge-call .ensures) ∙ ap verdictOf (c .before .before .before .before .before .before .before .before .before .before .before .before .before .before .before .before .enum-told .given .1) in
     let places : length (r .weights) ≡ mostPanel = search needs in
     let a = admitted r ps e in
     let m : c .before .before .before .before .before .before .before .before .before .rescale .last .0 ≡ moved r ps = c .before .before .before .before .before .before .before .before .before .rescale .ensures in
     let next = ap (λ (l : List ℕ). l ++ drop (r .units) (r .weights)) m in
     let front = ap (take (r .units)) next ∙ take-moved r ps places a (drop (r .units) (r .weights)) in
     let rest = ap₂ (λ (l : List ℕ) (f : ℕ). weightRefusal (held r) l (lastRefusal f (r .closes))) front (c .before .before .before .before .before .before .before .before .before .before .before .before .figure .ensures) in
-    let goes = call-goes r ps (weightRefusal (held r) (moved r ps) (lateRefusal r ps)) e ∙ sym rest ∙ sym (c .before .before .before .judge-close .ensures) in
+    let goes = call-goes r ps (weightRefusal (held r) (moved r ps) (figureRefusal r ps)) e ∙ sym rest ∙ sym (c .before .before .before .judge-close .ensures) in
     let why = c .before .rest .given .0 .0 in
-    let n : refusalOf r (Call.close ps) ≡ numberOf why = goes ∙ ap verdictOf (c .before .rest .given .1) in
+    let n : callRefusal r (Call.close ps) ≡ numberOf why = goes ∙ ap verdictOf (c .before .rest .given .1) in
     (refused-answer _ (figureOf r ps) why n, refused-record _ r (accepted r (Call.close ps)) why n)
 
 returns-3 : tie.Need-returns-3
-unfolding answerOf after refusalOf lateRefusal weightRefusal held
+unfolding callAnswer after callRefusal figureRefusal weightRefusal held
 returns-3 c =
     let r = recordOf (c .before .before .before .before .before .before .before .before .before .before .before .before .before .before .before .before .before .before .before .before .before .before .args .t1) in
     let ps = c .before .before .before .before .before .before .before .before .before .before .before .before .before .before .before .before .before .before .before .before .before .before .args .p .now in
-    let e : callRefusal r ps 0 ≡ 0 = sym (c .before .before .before .before .before .before .before .before .before .before .before .before .before .before .before .before .before .judge-call .ensures) ∙ ap verdictOf (c .before .before .before .before .before .before .before .before .before .before .before .before .before .before .before .enum-told .given .1) in
+    let e : callInputRefusal r ps 0 ≡ 0 = sym (c .before .before .before .before .before .before .before .before .before .before .before .before .before .before .before .before .before .judge-call .ensures) ∙ ap verdictOf (c .before .before .before .before .before .before .before .before .before .before .before .before .before .before .before .enum-told .given .1) in
     let places : length (r .weights) ≡ mostPanel = search needs in
     let a = admitted r ps e in
     let m : c .before .before .before .before .before .before .before .before .rescale .last .0 ≡ moved r ps = c .before .before .before .before .before .before .before .before .rescale .ensures in
     let next = ap (λ (l : List ℕ). l ++ drop (r .units) (r .weights)) m in
     let front = ap (take (r .units)) next ∙ take-moved r ps places a (drop (r .units) (r .weights)) in
     let rest = ap₂ (λ (l : List ℕ) (f : ℕ). weightRefusal (held r) l (lastRefusal f (r .closes))) front (c .before .before .before .before .before .before .before .before .before .before .before .figure .ensures) in
-    let goes = call-goes r ps (weightRefusal (held r) (moved r ps) (lateRefusal r ps)) e ∙ sym rest ∙ sym (c .before .before .judge-close .ensures) in
-    let n : refusalOf r (Call.close ps) ≡ 0 = goes ∙ ap verdictOf (c .enum-told2 .given .1) in
+    let goes = call-goes r ps (weightRefusal (held r) (moved r ps) (figureRefusal r ps)) e ∙ sym rest ∙ sym (c .before .before .judge-close .ensures) in
+    let n : callRefusal r (Call.close ps) ≡ 0 = goes ∙ ap verdictOf (c .enum-told2 .given .1) in
     let same = ap₂ (λ (l : List ℕ) (x : ℕ). recordWith l (r .units) x (r .closes + 1)) next (c .before .before .before .before .before .before .before .before .before .before .before .figure .ensures) in
     let count = ap (λ (x : ℕ). recordWith (moved r ps ++ drop (r .units) (r .weights)) (r .units) (figureOf r ps) x) (add-one (r .closes)) in (
       figure-answer _ _ (figureOf r ps) n (c .before .before .before .before .before .before .before .before .before .before .before .figure .ensures),

@@ -1,19 +1,19 @@
--- Laws of the lists (`rules`, Lists) for the passes over them: what one turn of a loop at i takes off what is left, and bounds of the sums.
+-- Laws of the lists (specs/Lists.antt), cited by every pass over a list: what one turn of a loop at i takes off what is left, what is known at the
+-- end, and what a test of a whole list says of each place.
 use mathlib.Core.Path.{_≡_, refl, sym, ap, ap₂, _∙_}
 use mathlib.Core.Bool.{Bool, true, false}
 use mathlib.Core.List.{List, [], _∷_, _++_, append-nil}
 use Prim.Native.Nat.{ℕ, zero, suc, _+_, _*_, _/_, _<_, _≤_, zero-le}
-use native.Mathlib.Nat.{le-of-suc-le-suc, not-suc-le-zero, zero-mul, mul-zero, mul-le-mul-left}
+use native.Mathlib.Nat.{le-of-suc-le-suc, not-suc-le-zero, zero-mul, mul-zero}
 use native.Mathlib.Numerals.{add-one}
 use native.Mathlib.Omega.{arith}
+use lib.Dec.{ltb}
 use lib.ListN.{length, getD, take, drop, set, drop-of-length-le}
 use lib.Seq.{drop-cons, take-all}
-use borrow.Author.Tests.{not-false, eqb-true}
-use Rattle.rules.specs.Limits.{lowestRelative, highestRelative}
-use Rattle.rules.specs.Tests.{_or_}
-use Rattle.rules.specs.Lists.{sum, products, scaled, anyOf, anyPair}
-use Rattle.rules.specs.Chain.{badRelative}
-use Rattle.rules.proofs.Tests.{or-on, or-off, or-false, within}
+use borrow.Author.Tests.{ltb-true, lt-ltb, le-ltb}
+use Rattle.rules.specs.Tests.{_or_, _and_}
+use Rattle.rules.specs.Lists.{sum, products, scaled, anyOf, anyPair, risesFrom, rising}
+use Rattle.rules.proofs.Tests.{and-left, and-right, or-on, or-off, or-false}
 
 -- a turn at i takes the first element of what is left
 pub drop-step : (l : List ℕ) (i : ℕ) → i < length l → drop i l ≡ getD l i 0 ∷ drop (i + 1) l
@@ -125,17 +125,51 @@ length-scaled scale [] p h = refl
 length-scaled scale (x ∷ v) [] h = absurd (omega arith)
 length-scaled scale (x ∷ v) (y ∷ p) h = ap suc (length-scaled scale v p (omega arith))
 
--- ---- bounds that relatives in range give
-relative-most : (mark p : ℕ) → badRelative mark p ≡ false → p ≤ highestRelative
-unfolding badRelative
-relative-most zero p e = omega (arith, eqb-true p 0 (not-false _ e))
-relative-most (suc mark) p e = within lowestRelative highestRelative p e .1
+-- ---- rising
+-- a list rises if what follows its first place rises from there
+pub rises-start : (l : List ℕ) → risesFrom (getD l 0 0) (drop 1 l) ≡ rising l
+unfolding rising risesFrom
+rises-start [] = refl
+rises-start (x ∷ xs) = refl
 
-pub products-bound : (v marks p : List ℕ) → anyPair badRelative marks p ≡ false → length p ≤ length marks → sum (products v p) ≤ highestRelative * sum v
-unfolding sum products anyPair
-products-bound [] marks p e h = zero-le
-products-bound (x ∷ v) marks [] e h = zero-le
-products-bound (x ∷ v) [] (y ∷ p) e h = absurd (omega arith)
-products-bound (x ∷ v) (m ∷ marks) (y ∷ p) e h =
-    let r = or-false (badRelative m y) (anyPair badRelative marks p) e in
-    omega (arith, mul-le-mul-left x (relative-most m y (r .0)), products-bound v marks p (r .1) (omega arith))
+module _ (x : ℕ) (l : List ℕ) (i : ℕ) where
+  pub rises-next : i < length l → x < getD l i 0 → risesFrom (getD l i 0) (drop (i + 1) l) ≡ risesFrom x (drop i l)
+  unfolding risesFrom _and_
+  rises-next h lt = rw (drop-cons l i 0 h, lt-ltb x (getD l i 0) lt, add-one)
+
+  pub rises-stop : i < length l → getD l i 0 ≤ x → risesFrom x (drop i l) ≡ false
+  unfolding risesFrom _and_
+  rises-stop h le = rw (drop-cons l i 0 h, le-ltb x (getD l i 0) le)
+
+  pub rises-end : length l ≤ i → risesFrom x (drop i l) ≡ true
+  unfolding risesFrom
+  rises-end h = rw (drop-of-length-le l h)
+
+-- ---- what a whole test says of each place
+pub any-none : (test : ℕ → Bool) (l : List ℕ) → anyOf test l ≡ false → (i : ℕ) → i < length l → test (getD l i 0) ≡ false
+unfolding anyOf
+any-none test [] e i h = absurd (omega arith)
+any-none test (x ∷ xs) e zero h = or-false (test x) (anyOf test xs) e .0
+any-none test (x ∷ xs) e (suc i) h = any-none test xs (or-false (test x) (anyOf test xs) e .1) i (omega arith)
+
+-- each place is below each later one
+above-all : (x : ℕ) (l : List ℕ) → risesFrom x l ≡ true → (j : ℕ) → j < length l → x < getD l j 0
+unfolding risesFrom
+above-all x [] e j h = absurd (omega arith)
+above-all x (y ∷ ys) e zero h = ltb-true x y (and-left (ltb x y) (risesFrom y ys) e)
+above-all x (y ∷ ys) e (suc j) h =
+    let lower : x < y = ltb-true x y (and-left (ltb x y) (risesFrom y ys) e) in
+    let upper : y < getD ys j 0 = above-all y ys (and-right (ltb x y) (risesFrom y ys) e) j (omega arith) in
+    omega arith
+
+rises-rest : (x : ℕ) (l : List ℕ) → risesFrom x l ≡ true → rising l ≡ true
+unfolding rising risesFrom
+rises-rest x [] e = refl
+rises-rest x (y ∷ ys) e = and-right (ltb x y) (risesFrom y ys) e
+
+pub rising-below : (l : List ℕ) → rising l ≡ true → (i j : ℕ) → i < j → j < length l → getD l i 0 < getD l j 0
+unfolding rising
+rising-below [] e i j h k = absurd (omega arith)
+rising-below (x ∷ xs) e i zero h k = absurd (omega arith)
+rising-below (x ∷ xs) e zero (suc j) h k = above-all x xs e j (omega arith)
+rising-below (x ∷ xs) e (suc i) (suc j) h k = rising-below xs (rises-rest x xs e) i j (omega arith) (omega arith)
