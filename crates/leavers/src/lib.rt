@@ -3,8 +3,8 @@
 use group::Group;
 use limits::MOST_PANEL;
 use limits::RANDOM_RANGE;
-use limits::STEPS;
 use limits::STEP_LENGTH;
+use limits::STEPS;
 use members::Places;
 use panel::told;
 ghost use mathlib.Core.Path.{_≡_};
