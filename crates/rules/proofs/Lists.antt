@@ -4,16 +4,17 @@ use mathlib.Core.Path.{_≡_, refl, sym, ap, ap₂, _∙_}
 use mathlib.Core.Bool.{Bool, true, false}
 use mathlib.Core.List.{List, [], _∷_, _++_, append-nil}
 use Prim.Native.Nat.{ℕ, zero, suc, _+_, _*_, _/_, _<_, _≤_, zero-le}
-use native.Mathlib.Nat.{le-of-eq, le-of-suc-le-suc, not-suc-le-zero, zero-mul, mul-zero}
+use native.Mathlib.Nat.{le-of-eq, le-of-suc-le-suc, not-suc-le-zero, zero-mul, mul-zero, mul-le-mul-left, div-le-of-le-mul}
 use native.Mathlib.Numerals.{add-one}
 use native.Mathlib.Omega.{arith}
 use lib.Dec.{ltb}
 use lib.ListN.{length, getD, take, drop, set, drop-of-length-le}
-use lib.Seq.{drop-cons, take-all}
+use lib.Seq.{drop-cons, take-all, take-take, take-at, getD-at, getD-take, getD-set-same, getD-set-other}
+use borrow.Author.Count.{below-more}
 use borrow.Author.Tests.{ltb-true, lt-ltb, le-ltb}
 use Rattle.rules.specs.Tests.{_or_, _and_}
 use Rattle.rules.specs.Lists.{sum, products, scaled, anyOf, anyPair, risesFrom, rising}
-use Rattle.rules.proofs.Tests.{and-left, and-right, or-on, or-off, or-false}
+use Rattle.rules.proofs.Tests.{and-left, and-right, and-true, or-on, or-off, or-false}
 
 -- a turn at i takes the first element of what is left
 pub drop-step : (l : List ℕ) (i : ℕ) → i < length l → drop i l ≡ getD l i 0 ∷ drop (i + 1) l
@@ -82,42 +83,44 @@ product-le (x ∷ v) [] i = rw mul-zero zero-le
 product-le (x ∷ v) (y ∷ p) zero = omega arith
 product-le (x ∷ v) (y ∷ p) (suc i) = omega (arith, product-le v p i)
 
--- ---- scaling a list where it lies
--- the list after i turns: the first i places scaled, the others as they were
-abbrev pub scaledTo : ℕ → ℕ → List ℕ → List ℕ → List ℕ
-scaledTo scale i v p = scaled scale (take i v) (take i p) ++ drop i v
+-- ---- scaling a list into places
+-- the places after i turns: the first i hold what is scaled, the others what they held
+abbrev pub scaledOnto : ℕ → ℕ → List ℕ → List ℕ → List ℕ → List ℕ
+scaledOnto scale i v p out = scaled scale (take i v) (take i p) ++ drop i out
 
-pub scaledTo-none : (scale : ℕ) (v p : List ℕ) → scaledTo scale 0 v p ≡ v
+pub scaledOnto-none : (scale : ℕ) (v p out : List ℕ) → scaledOnto scale 0 v p out ≡ out
 unfolding scaled
-scaledTo-none scale v p = refl
+scaledOnto-none scale v p out = refl
 
--- place i is still as it was
-pub scaledTo-at : (scale i : ℕ) (v p : List ℕ) → length v ≡ length p → getD (scaledTo scale i v p) i 0 ≡ getD v i 0
+pub scaledOnto-step : (scale i : ℕ) (v p out : List ℕ) → i < length p → length p ≤ length v → length out ≡ length p →
+    set (scaledOnto scale i v p out) i (getD v i 0 * getD p i 0 / scale) ≡ scaledOnto scale (suc i) v p out
 unfolding scaled
-scaledTo-at scale zero v p h = refl
-scaledTo-at scale (suc i) [] p h = refl
-scaledTo-at scale (suc i) (x ∷ v) [] h = absurd (omega arith)
-scaledTo-at scale (suc i) (x ∷ v) (y ∷ p) h = scaledTo-at scale i v p (omega arith)
+scaledOnto-step scale i v [] out h k m = absurd (not-suc-le-zero h)
+scaledOnto-step scale i [] (y ∷ p) out h k m = absurd (omega arith)
+scaledOnto-step scale i (x ∷ v) (y ∷ p) [] h k m = absurd (omega arith)
+scaledOnto-step scale zero (x ∷ v) (y ∷ p) (o ∷ out) h k m = refl
+scaledOnto-step scale (suc i) (x ∷ v) (y ∷ p) (o ∷ out) h k m =
+    ap (λ (l : List ℕ). (x * y / scale) ∷ l) (scaledOnto-step scale i v p out (le-of-suc-le-suc h) (omega arith) (omega arith))
 
-pub scaledTo-step : (scale i : ℕ) (v p : List ℕ) → i < length v → length v ≡ length p → set (scaledTo scale i v p) i (getD v i 0 * getD p i 0 / scale) ≡ scaledTo scale (suc i) v p
+-- only as many places count as the second list has
+pub scaled-take : (scale : ℕ) (v p : List ℕ) → scaled scale (take (length p) v) p ≡ scaled scale v p
 unfolding scaled
-scaledTo-step scale i [] p h k = absurd (not-suc-le-zero h)
-scaledTo-step scale i (x ∷ v) [] h k = absurd (omega arith)
-scaledTo-step scale zero (x ∷ v) (y ∷ p) h k = refl
-scaledTo-step scale (suc i) (x ∷ v) (y ∷ p) h k = ap (λ (l : List ℕ). (x * y / scale) ∷ l) (scaledTo-step scale i v p (le-of-suc-le-suc h) (omega arith))
+scaled-take scale [] p = ap (λ (l : List ℕ). scaled scale l p) (take-all (length p) [] zero-le)
+scaled-take scale (x ∷ v) [] = refl
+scaled-take scale (x ∷ v) (y ∷ p) = ap (λ (l : List ℕ). (x * y / scale) ∷ l) (scaled-take scale v p)
 
--- with no place left all of it is scaled
-pub scaledTo-all : (scale i : ℕ) (v p : List ℕ) → length v ≡ length p → length v ≤ i → scaledTo scale i v p ≡ scaled scale v p
-scaledTo-all scale i v p h k =
-    let m : length p ≤ i = omega arith in
-    simp (take-all i v k, take-all i p m, drop-end v i k, append-nil)
+pub products-take : (v p : List ℕ) → products (take (length p) v) p ≡ products v p
+unfolding products
+products-take [] p = ap (λ (l : List ℕ). products l p) (take-all (length p) [] zero-le)
+products-take (x ∷ v) [] = refl
+products-take (x ∷ v) (y ∷ p) = ap (λ (l : List ℕ). x * y ∷ l) (products-take v p)
 
-pub scaled-at : (scale i : ℕ) (v p : List ℕ) → i < length v → length v ≡ length p → getD (scaled scale v p) i 0 ≡ getD v i 0 * getD p i 0 / scale
-unfolding scaled
-scaled-at scale i [] p h k = absurd (not-suc-le-zero h)
-scaled-at scale i (x ∷ v) [] h k = absurd (omega arith)
-scaled-at scale zero (x ∷ v) (y ∷ p) h k = refl
-scaled-at scale (suc i) (x ∷ v) (y ∷ p) h k = scaled-at scale i v p (le-of-suc-le-suc h) (omega arith)
+-- with no place left all of them are scaled
+pub scaledOnto-all : (scale : ℕ) (v p out : List ℕ) → length out ≡ length p → scaledOnto scale (length p) v p out ≡ scaled scale v p
+scaledOnto-all scale v p out m =
+    let h : length p ≤ length p = omega arith in
+    let o : length out ≤ length p = omega arith in
+    simp (take-all (length p) p h, drop-end out (length p) o, append-nil, scaled-take)
 
 pub length-scaled : (scale : ℕ) (v p : List ℕ) → length v ≡ length p → length (scaled scale v p) ≡ length v
 unfolding scaled
@@ -194,3 +197,60 @@ writtenTo-next (suc i) (x ∷ news) (y ∷ buffer) h k = ap (λ (l : List ℕ). 
 -- all of them: what `written` says where nothing refuses
 pub writtenTo-all : (news buffer : List ℕ) → writtenTo (length news) news buffer ≡ news ++ drop (length news) buffer
 writtenTo-all news buffer = ap (λ (l : List ℕ). l ++ drop (length news) buffer) (take-all (length news) news (le-of-eq refl))
+-- ---- sums of products with numbers within a limit
+-- each place of a list is within the limit, where a test that fails says so of a number
+pub any-within : (test : ℕ → Bool) (most : ℕ) → ((y : ℕ) → test y ≡ false → y ≤ most) → (l : List ℕ) → anyOf test l ≡ false → (i : ℕ) → getD l i 0 ≤ most
+unfolding anyOf
+any-within test most says [] e i = zero-le
+any-within test most says (x ∷ xs) e zero = says x (or-false (test x) (anyOf test xs) e .0)
+any-within test most says (x ∷ xs) e (suc i) = any-within test most says xs (or-false (test x) (anyOf test xs) e .1) i
+
+pub pair-within : (test : ℕ → ℕ → Bool) (most : ℕ) → ((x y : ℕ) → test x y ≡ false → y ≤ most) →
+    (v p : List ℕ) → length p ≤ length v → anyPair test v p ≡ false → (i : ℕ) → getD p i 0 ≤ most
+unfolding anyPair
+pair-within test most says v [] h e i = zero-le
+pair-within test most says [] (y ∷ p) h e i = absurd (omega arith)
+pair-within test most says (x ∷ v) (y ∷ p) h e zero = says x y (or-false (test x y) (anyPair test v p) e .0)
+pair-within test most says (x ∷ v) (y ∷ p) h e (suc i) = pair-within test most says v p (omega arith) (or-false (test x y) (anyPair test v p) e .1) i
+
+pub products-within : (most : ℕ) (v p : List ℕ) → ((i : ℕ) → getD p i 0 ≤ most) → sum (products v p) ≤ most * sum v
+unfolding sum products
+products-within most [] p h = zero-le
+products-within most (x ∷ v) [] h = zero-le
+products-within most (x ∷ v) (y ∷ p) h = omega (arith, mul-le-mul-left x (h 0), products-within most v p (λ i. h (suc i)))
+
+pub scaled-within : (scale : ℕ) (v p : List ℕ) → ((i : ℕ) → getD p i 0 ≤ scale) → sum (scaled scale v p) ≤ sum v
+unfolding sum scaled
+scaled-within scale [] p h = zero-le
+scaled-within scale (x ∷ v) [] h = zero-le
+scaled-within scale (x ∷ v) (y ∷ p) h =
+    let k : x * y ≤ scale * x = omega (arith, mul-le-mul-left x (h 0)) in
+    omega (arith, div-le-of-le-mul scale k, scaled-within scale v p (λ i. h (suc i)))
+
+-- ---- one more at the end
+-- a list that rises still does with one more that is above all of it
+rises-snoc : (x : ℕ) (l : List ℕ) (y : ℕ) → risesFrom x l ≡ true → x < y → ((i : ℕ) → i < length l → getD l i 0 < y) → risesFrom x (l ++ y ∷ []) ≡ true
+unfolding risesFrom
+rises-snoc x [] y e h above = and-true (ltb x y) true (lt-ltb x y h) refl
+rises-snoc x (w ∷ ws) y e h above =
+    and-true (ltb x w) (risesFrom w (ws ++ y ∷ [])) (and-left (ltb x w) (risesFrom w ws) e)
+    (rises-snoc w ws y (and-right (ltb x w) (risesFrom w ws) e) (above 0 (omega arith)) (λ i k. above (suc i) (omega arith)))
+
+pub rising-snoc : (l : List ℕ) (y : ℕ) → rising l ≡ true → ((i : ℕ) → i < length l → getD l i 0 < y) → rising (l ++ y ∷ []) ≡ true
+unfolding rising risesFrom
+rising-snoc [] y e above = refl
+rising-snoc (x ∷ xs) y e above = rises-snoc x xs y e (above 0 (omega arith)) (λ i k. above (suc i) (omega arith))
+
+-- k + 1 places that are a list and one more: the k before it, and the last
+pub take-last : (l xs : List ℕ) (x k : ℕ) → length xs ≡ k → take (suc k) l ≡ xs ++ (x ∷ []) → (take k l ≡ xs) × (getD l k 0 ≡ x)
+take-last l xs x k h e = (
+  sym (take-take k (suc k) l (omega arith)) ∙ ap (take k) e ∙ take-at xs (x ∷ []) k h,
+  sym (getD-take (suc k) l k 0 (omega arith)) ∙ ap (λ (ys : List ℕ). getD ys k 0) e ∙ getD-at xs x [] 0 k h,
+)
+
+-- a list that is filled place by place: f stands below i, and after a store below i + 1
+pub filled-more : (f : ℕ → ℕ) (l : List ℕ) (i v : ℕ) → i < length l → v ≡ f i → ((k : ℕ) → k < i → getD l k 0 ≡ f k) → (k : ℕ) → k < i + 1 → getD (set l i v) k 0 ≡ f k
+filled-more f l i v h e before =
+    below-more (λ k. getD (set l i v) k 0 ≡ f k) i
+    (λ k m. getD-set-other l i k v 0 (λ q. omega arith) ∙ before k m)
+    (getD-set-same l i v 0 h ∙ e)

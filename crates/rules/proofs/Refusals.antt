@@ -67,6 +67,15 @@ module _ {A : Type 0} where
   stays-stops zero before next some = absurd (some refl)
   stays-stops (suc n) before next some = refl
 
+  -- an answer tells the number, and what was asked for
+  pub given-tells : (n : ℕ) (a b : A) → Judged.given b ≡ judged n a → (n ≡ 0) × (b ≡ a)
+  given-tells zero a b e = (refl, cc)
+  given-tells (suc n) a b e = absurd (let z : _≡_ {A = ℕ} 0 1 = cc in omega arith)
+
+  pub refused-tells : (n m : ℕ) (a : A) → Judged.refused m ≡ judged n a → m ≡ n
+  refused-tells zero m a e = cc
+  refused-tells (suc n) m a e = cc
+
 pub written-goes : (n : ℕ) (news buffer : List ℕ) → n ≡ 0 → written n news buffer ≡ news ++ drop (length news) buffer
 written-goes n news buffer e = stays-goes n buffer _ e
 
