@@ -223,6 +223,7 @@ def load_suite(rng, count):
     for lengths in ((1, 2, 2), (2, 1, 2), (2, 2, 1), (2, 2, 2), (3, 2, 2)):
         yield from load_cases(5, 2, *([9] * length for length in lengths))
     yield from load_cases(5, 0, [], [], [])
+    yield "madeFrame 0 2 .numbers", number_list([1, 2])
     long = [0] * 16_385
     yield f"loadRefusal 5 16384 {number_list(long)} {number_list(long)} {number_list(long)}", "0"
     yield f"loadRefusal 5 16385 {number_list(long)} {number_list(long)} {number_list(long)}", "33"
