@@ -14,7 +14,19 @@ ghost use mathlib.Core.Path.{_≡_};
 ghost use Rattle.rules.specs.Chain.{Call};
 ghost use Rattle.rules.specs.Total.{totalAnswer};
 ghost use Rattle.vougecress.specs.Record.{openedNumber, openedList, listAnswer, listAfter};
+ghost use Rattle.vougecress.specs.Version.{libraryVersion};
 ghost use Rattle.boundary.specs.Figures.{figureFrom, sumFrom};
+
+// 1.0.0; the header's VOUGECRESS_VERSION.
+pub const VERSION: u32 = 10000;
+
+// The version that was built, for a caller to hold against the header's.
+#[no_mangle]
+pub extern "C" fn vougecress_version() -> u32
+    ensures { λ r. ⌜ r ≡ libraryVersion ⌝ }
+{
+    VERSION
+}
 
 // Opens a chain in a lent record.
 #[no_mangle]
