@@ -56,7 +56,7 @@ def has_name(name):
 def test_items_and_files(t):
     for document in DOCUMENTS:
         for name in quoted(document.read_text()):
-            if re.fullmatch(r"[a-z0-9]+(::\w+)+", name):
+            if re.fullmatch(r"[a-z0-9_]+(::\w+)+", name):
                 t.check(has_item(name), f"{document.name}: no item {name}")
             elif re.fullmatch(r"[\w-]+(/[\w+.-]+)+", name) and "NAME" not in name:
                 t.check(has_file(name), f"{document.name}: no file {name}")
@@ -75,10 +75,9 @@ def test_table_cells(t):
 
 
 def test_the_map_of_crates(t):
-    text = (ROOT / "README.md").read_text().split("## The crates")[1].split("```")[1]
-    named = set(re.findall(r"(?:^ |  )([a-z0-9]+)(?=  )", text, re.MULTILINE))
-    for name in CRATES:
-        t.check(name in named, f"README.md: the map lacks {name}")
+    named = re.findall(r"^\| `(\w+)` \|", (ROOT / "docs" / "CRATES.md").read_text(), re.MULTILINE)
+    t.check(len(named) == len(set(named)), "docs/CRATES.md names a crate once")
+    t.check(set(named) == set(CRATES), "docs/CRATES.md names every crate", sorted(set(named) ^ set(CRATES)))
     made = {path.name for path in (ROOT / "crates").iterdir()}
     t.check(made == set(CRATES), "crates.txt lists every crate", sorted(made ^ set(CRATES)))
 

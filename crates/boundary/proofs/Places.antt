@@ -4,7 +4,8 @@ use mathlib.Core.List.{List, [], _∷_, _++_}
 use Prim.Native.Nat.{ℕ, zero, suc, _≤_}
 use native.Mathlib.Omega.{arith}
 use lib.ListN.{length, drop, set}
-use Rattle.rules.specs.Chain.{Chain, Opening, openBy}
+use Rattle.rules.specs.Refusals.{Judged, judged}
+use Rattle.rules.specs.Chain.{Chain}
 use Rattle.boundary.specs.Record.{recordPlaces, recordList, laidBy}
 use borrow.Rule.Slice.PartMut.{putMid}
 
@@ -15,11 +16,11 @@ laid (x ∷ y ∷ []) w a b c h = absurd (omega arith)
 laid (x ∷ y ∷ z ∷ r) w a b c h = refl
 
 -- what an open answers and leaves in the list, by what the inner open answers
-pub refused-laid : (n k : ℕ) (s : Chain) (xs : List ℕ) → Opening.refused k ≡ openBy n s → (k ≡ n) × (xs ≡ laidBy n s xs)
+pub refused-laid : (n k : ℕ) (s : Chain) (xs : List ℕ) → Judged.refused k ≡ judged n s → (k ≡ n) × (xs ≡ laidBy n s xs)
 refused-laid zero k s xs e = absurd (let z : _≡_ {A = ℕ} 0 1 = cc in omega arith)
 refused-laid (suc n) k s xs e = (cc, refl)
 
-pub opened-laid : (n : ℕ) (r s : Chain) (xs : List ℕ) → Opening.opened r ≡ openBy n s → (0 ≡ n) × (recordList r ++ drop recordPlaces xs ≡ laidBy n s xs)
+pub opened-laid : (n : ℕ) (r s : Chain) (xs : List ℕ) → Judged.given r ≡ judged n s → (0 ≡ n) × (recordList r ++ drop recordPlaces xs ≡ laidBy n s xs)
 opened-laid zero r s xs e =
     let same : r ≡ s = cc in
     (refl, ap (λ (q : Chain). recordList q ++ drop recordPlaces xs) same)

@@ -1,6 +1,6 @@
 // The chain record as a lent list: units, index and closes, and then its 100 weights.
 use chain::Chain;
-use weights::MOST_PANEL;
+use limits::MOST_PANEL;
 ghost use mathlib.Core.Path.{_≡_};
 ghost use mathlib.Core.List.{_++_};
 ghost use Prim.Native.Nat.{_≤_};

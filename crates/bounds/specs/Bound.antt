@@ -8,9 +8,9 @@ use lib.ListN.{length, getD}
 use lib.Dec.{ltb, leb, eqb}
 use Rattle.rules.specs.Limits.{mostTurnover}
 use Rattle.rules.specs.Tests.{_or_, _and_}
+use Rattle.rules.specs.Selection.{count}
 use Rattle.rules.specs.TakeAll.{turnover}
 use Rattle.rules.specs.Draw.{fractionBelow}
-use Rattle.rules.specs.Selection.{count}
 use Rattle.keys.specs.Units.{numOf, denOf}
 use Rattle.bounds.specs.declared.Bound.{Bound}
 

@@ -11,11 +11,11 @@ use borrow.Author.Tests.{eqb-true, not-false}
 use Rattle.refusals.specs.Number.{numberOf}
 use Rattle.refusals.specs.declared.Refusal.{Refusal}
 use Rattle.rules.specs.Limits.{relativeScale, mostPanel}
-use Rattle.rules.specs.Tests.{refuse}
+use Rattle.rules.specs.Refusals.{refuse, judged, stays, _then_}
 use Rattle.rules.specs.Lists.{sum, products, anyPair}
-use Rattle.rules.specs.Chain.{Chain, held, badRelative, broken, callRefusal, moved, answerBy, afterBy}
-use Rattle.rules.proofs.Tests.{refuse-none, refuse-keeps}
-use Rattle.passes.proofs.Lists.{products-bound, length-scaled}
+use Rattle.rules.specs.Chain.{Chain, held, badRelative, broken, callInputRefusal, moved}
+use Rattle.rules.proofs.Refusals.{refuse-none, then-stops}
+use Rattle.rules.proofs.Lists.{length-scaled}
 use Rattle.refusals.proofs.Numbers.{number-is-suc, not-none}
 use Rattle.figures.specs.Steps.{Reckonable}
 use Rattle.figures.proofs.Sound.{Sound, sound-facts}
@@ -29,8 +29,8 @@ pub record Admitted (r : Chain) (ps : List ℕ) : Type 0 where
 
 module _ (r : Chain) (ps : List ℕ) where
   -- a call that 19, 9 and 13 let pass
-  pub admitted : callRefusal r ps 0 ≡ 0 → Admitted r ps
-  unfolding callRefusal
+  pub admitted : callInputRefusal r ps 0 ≡ 0 → Admitted r ps
+  unfolding callInputRefusal
   admitted e =
       let state = refuse-none (broken r) 18 _ e in
       let lists = refuse-none (not (eqb (length ps) (r .units))) 8 _ (state .1) in
@@ -41,8 +41,8 @@ module _ (r : Chain) (ps : List ℕ) where
         relatives = relatives .0;
       }
 
-  pub call-stops : (later : ℕ) (why : Refusal) → numberOf why ≡ callRefusal r ps 0 → callRefusal r ps later ≡ numberOf why
-  unfolding callRefusal
+  pub call-stops : (later : ℕ) (why : Refusal) → numberOf why ≡ callInputRefusal r ps 0 → callInputRefusal r ps later ≡ numberOf why
+  unfolding callInputRefusal
   call-stops later why e =
       refuse-keeps (broken r) 19 _ _
       (refuse-keeps (not (eqb (length ps) (r .units))) 9 _ _
@@ -50,8 +50,8 @@ module _ (r : Chain) (ps : List ℕ) where
       (not-none why _ e)
       ∙ sym e
 
-  pub call-goes : (later : ℕ) → callRefusal r ps 0 ≡ 0 → callRefusal r ps later ≡ later
-  unfolding callRefusal refuse
+  pub call-goes : (later : ℕ) → callInputRefusal r ps 0 ≡ 0 → callInputRefusal r ps later ≡ later
+  unfolding callInputRefusal refuse
   call-goes later e =
       let state = refuse-none (broken r) 18 _ e in
       let lists = refuse-none (not (eqb (length ps) (r .units))) 8 _ (state .1) in
@@ -96,14 +96,14 @@ module _ (r : Chain) (ps : List ℕ) (places : length (r .weights) ≡ mostPanel
       simp length-append (omega (arith, places, length-moved, length-drop (r .units) (r .weights), units-fit))
 
 -- ---- the answer and the record that go with a refusal, and with a figure
-pub refused-answer : (n f : ℕ) (why : Refusal) → n ≡ numberOf why → answerFrom (Refused why) ≡ answerBy n f
+pub refused-answer : (n f : ℕ) (why : Refusal) → n ≡ numberOf why → answerFrom (Refused why) ≡ judged n f
 refused-answer n f why e = rw (e, number-is-suc why)
 
-pub refused-record : (n : ℕ) (r next : Chain) (why : Refusal) → n ≡ numberOf why → r ≡ afterBy n r next
+pub refused-record : (n : ℕ) (r next : Chain) (why : Refusal) → n ≡ numberOf why → r ≡ stays n r next
 refused-record n r next why e = rw (e, number-is-suc why)
 
-pub figure-answer : (n f g : ℕ) → n ≡ 0 → f ≡ g → answerFrom (Figure f) ≡ answerBy n g
+pub figure-answer : (n f g : ℕ) → n ≡ 0 → f ≡ g → answerFrom (Figure f) ≡ judged n g
 figure-answer n f g e h = rw (e, h)
 
-pub figure-record : (n : ℕ) (r next next′ : Chain) → n ≡ 0 → next ≡ next′ → next ≡ afterBy n r next′
+pub figure-record : (n : ℕ) (r next next′ : Chain) → n ≡ 0 → next ≡ next′ → next ≡ stays n r next′
 figure-record n r next next′ e h = rw (e, h)

@@ -1,11 +1,11 @@
 // Document 01, "Chain record": quarter and close, by value on the record. The crate `figures` has the steps of both; opening a record is
 // the crate `opening`.
+use limits::MOST_PANEL;
 use refusals::Refusal;
 use refusals::Verdict;
 use relative::Relative;
-use weights::MOST_PANEL;
 ghost use mathlib.Core.Path.{_≡_};
-ghost use Rattle.rules.specs.Chain.{Call, answerOf, after};
+ghost use Rattle.rules.specs.Chain.{Call, callAnswer, after};
 ghost use Rattle.chain.specs.Record.{recordOf, answerFrom};
 
 // `weights` has every place of the record; the units' v are the first `units` of them.
@@ -30,7 +30,7 @@ pub struct Answered {
 impl Chain {
     // The figure of a quarter; the record stays as it is.
     pub fn quarter(self, p: &[u32]) -> Answered
-        ensures { λ r. ⌜ answerFrom (r .answer) ≡ answerOf (recordOf self) (Call.quarter (now (p .entry))) ⌝ }
+        ensures { λ r. ⌜ answerFrom (r .answer) ≡ callAnswer (recordOf self) (Call.quarter (now (p .entry))) ⌝ }
         ensures { λ r. ⌜ recordOf (r .chain) ≡ after (recordOf self) (Call.quarter (now (p .entry))) ⌝ }
     {
         let n = self.units;
@@ -61,7 +61,7 @@ impl Chain {
 
     // The figure of a close, which moves the index and the weights and counts one close.
     pub fn close(self, p: &[u32]) -> Answered
-        ensures { λ r. ⌜ answerFrom (r .answer) ≡ answerOf (recordOf self) (Call.close (now (p .entry))) ⌝ }
+        ensures { λ r. ⌜ answerFrom (r .answer) ≡ callAnswer (recordOf self) (Call.close (now (p .entry))) ⌝ }
         ensures { λ r. ⌜ recordOf (r .chain) ≡ after (recordOf self) (Call.close (now (p .entry))) ⌝ }
     {
         let n = self.units;

@@ -11,9 +11,10 @@ use borrow.Author.Tests.{le-leb}
 use lib.Dec.{leb}
 use lib.ListN.{length, replicate}
 use Rattle.rules.specs.Limits.{boundScale}
-use Rattle.rules.specs.Tests.{_or_, outside, refuse}
+use Rattle.rules.specs.Tests.{_or_, outside}
+use Rattle.rules.specs.Refusals.{refuse, Judged, _then_}
 use Rattle.rules.specs.Lists.{sum, products, scaled, anyOf, anyPair}
-use Rattle.rules.specs.Chain.{Chain, Call, Answer, Opening, held, badIndex, badRelative, badWeight, badUnits, badOpenLists, badBase, badShares, openRefusal, openRecord, openAnswer, link, figureAt, broken, callRefusal, lateRefusal, refusalOf, answerOf, after, answers}
+use Rattle.rules.specs.Chain.{Chain, Call, held, badIndex, badRelative, badWeight, badUnits, badOpenLists, badBase, badShares, openRefusal, openRecord, openAnswer, link, figureAt, broken, callInputRefusal, figureRefusal, callRefusal, callAnswer, after, answers}
 use Rattle.rules.specs.Direct.{Direct, directOpen, numerator, denominator, Within, AllWithin}
 use Rattle.closeness.proofs.Demand3.{demand3}
 
@@ -47,34 +48,34 @@ record₀ = openRecord ws ones ones start
 abbrev direct₀ : Direct
 direct₀ = directOpen ws ones ones start
 
-pub listing-opens : openAnswer ws ones ones start ≡ Opening.opened record₀
+pub listing-opens : openAnswer ws ones ones start ≡ Judged.given record₀
 unfolding _or_ outside refuse sum scaled anyOf anyPair badIndex badRelative badWeight badUnits badOpenLists badBase badShares openRefusal openAnswer
 listing-opens = refl
 
-pub listing-answers : answers record₀ listing ≡ Answer.figure 1062000000 ∷ Answer.figure 1063799994 ∷ []
-unfolding _or_ outside refuse sum products scaled anyPair held badIndex badRelative badWeight badUnits openRecord link figureAt broken callRefusal lateRefusal refusalOf answerOf after answers
+pub listing-answers : answers record₀ listing ≡ Judged.given 1062000000 ∷ Judged.given 1063799994 ∷ []
+unfolding _or_ outside refuse sum products scaled anyPair held badIndex badRelative badWeight badUnits openRecord link figureAt broken callInputRefusal figureRefusal callRefusal callAnswer after answers
 listing-answers = refl
 
 -- what the theorem says of those two figures
-pub listing-within : AllWithin direct₀ listing (Answer.figure 1062000000 ∷ Answer.figure 1063799994 ∷ [])
+pub listing-within : AllWithin direct₀ listing (Judged.given 1062000000 ∷ Judged.given 1063799994 ∷ [])
 listing-within = rw listing-answers at (demand3 ws ones ones start record₀ listing-opens listing)
 
 -- ---- "A refused call … changes nothing"
-pub refused-changes-nothing : (r : Chain) (call : Call) (calls : List Call) (n : ℕ) → refusalOf r call ≡ suc n →
-    answers r (call ∷ calls) ≡ Answer.refused (suc n) ∷ answers r calls
-unfolding answers answerOf after
+pub refused-changes-nothing : (r : Chain) (call : Call) (calls : List Call) (n : ℕ) → callRefusal r call ≡ suc n →
+    answers r (call ∷ calls) ≡ Judged.refused (suc n) ∷ answers r calls
+unfolding answers callAnswer after
 refused-changes-nothing r call calls n e = rw e
 
 -- a relative of 2,499 between the listing's two calls
 pub listing-refused : answers record₀ (firstClose ∷ Call.close (2499 ∷ 10000 ∷ 10000 ∷ []) ∷ lastQuarter ∷ []) ≡
-    Answer.figure 1062000000 ∷ Answer.refused 13 ∷ Answer.figure 1063799994 ∷ []
-unfolding _or_ outside refuse sum products scaled anyPair held badIndex badRelative badWeight badUnits openRecord link figureAt broken callRefusal lateRefusal refusalOf answerOf after answers
+    Judged.given 1062000000 ∷ Judged.refused 13 ∷ Judged.given 1063799994 ∷ []
+unfolding _or_ outside refuse sum products scaled anyPair held badIndex badRelative badWeight badUnits openRecord link figureAt broken callInputRefusal figureRefusal callRefusal callAnswer after answers
 listing-refused = refl
 
 -- ---- forty closes answer figures; after them a close and a quarter are refused by 24, not earlier
 pub forty-closes : answers record₀ (replicate 40 (Call.close ones) ++ Call.close ones ∷ Call.quarter ones ∷ []) ≡
-    replicate 40 (Answer.figure 1000000000) ++ Answer.refused 24 ∷ Answer.refused 24 ∷ []
-unfolding _or_ outside refuse sum products scaled anyPair held badIndex badRelative badWeight badUnits openRecord link figureAt broken callRefusal lateRefusal refusalOf answerOf after answers
+    replicate 40 (Judged.given 1000000000) ++ Judged.refused 24 ∷ Judged.refused 24 ∷ []
+unfolding _or_ outside refuse sum products scaled anyPair held badIndex badRelative badWeight badUnits openRecord link figureAt broken callInputRefusal figureRefusal callRefusal callAnswer after answers
 forty-closes = refl
 
 -- ---- the bound cannot have m for m + 1: an open whose two floors both lose nearly 1 of a weight of a million
@@ -91,12 +92,12 @@ lowUpdates = 10010 ∷ 10000 ∷ []
 abbrev apart : List ℕ
 apart = 40000 ∷ 2500 ∷ []
 
-pub low-opens : openAnswer lowBase lowShares lowUpdates start ≡ Opening.opened (openRecord lowBase lowShares lowUpdates start)
+pub low-opens : openAnswer lowBase lowShares lowUpdates start ≡ Judged.given (openRecord lowBase lowShares lowUpdates start)
 unfolding _or_ outside refuse sum scaled anyOf anyPair badIndex badRelative badWeight badUnits badOpenLists badBase badShares openRefusal openAnswer
 low-opens = refl
 
-pub low-answers : answers (openRecord lowBase lowShares lowUpdates start) (Call.quarter apart ∷ []) ≡ Answer.figure 1001198920 ∷ []
-unfolding _or_ outside refuse sum products scaled anyPair held badIndex badRelative badWeight badUnits openRecord link figureAt broken callRefusal lateRefusal refusalOf answerOf after answers
+pub low-answers : answers (openRecord lowBase lowShares lowUpdates start) (Call.quarter apart ∷ []) ≡ Judged.given 1001198920 ∷ []
+unfolding _or_ outside refuse sum products scaled anyPair held badIndex badRelative badWeight badUnits openRecord link figureAt broken callInputRefusal figureRefusal callRefusal callAnswer after answers
 low-answers = refl
 
 -- m is 1 there, so m for m + 1 is what `Within` says at m = 0
@@ -106,12 +107,12 @@ low-needs-m-plus-one w = never _ _ refl (w .notBelow)
 
 -- ---- wrong programs
 -- "keeping old weights at close gives 1,063,593,000 in the last line"
-pub old-weights-fall : AllWithin direct₀ listing (Answer.figure 1062000000 ∷ Answer.figure 1063593000 ∷ []) → ⊥
+pub old-weights-fall : AllWithin direct₀ listing (Judged.given 1062000000 ∷ Judged.given 1063593000 ∷ []) → ⊥
 unfolding sum products directOpen numerator denominator
 old-weights-fall w = never _ _ refl (w .1 .0 .notBelow)
 
 -- one figure for every call
-pub fixed-figure-falls : (f : ℕ) → AllWithin direct₀ listing (Answer.figure f ∷ Answer.figure f ∷ []) → ⊥
+pub fixed-figure-falls : (f : ℕ) → AllWithin direct₀ listing (Judged.given f ∷ Judged.given f ∷ []) → ⊥
 unfolding sum products directOpen numerator denominator
 fixed-figure-falls f w = go (decLe f 1063000000)
   where
@@ -127,14 +128,14 @@ secondClose = Call.close (12000 ∷ 10000 ∷ 10000 ∷ [])
 abbrev record₁ : Chain
 record₁ = after record₀ firstClose
 
-pub stopped-closes-fall : AllWithin direct₀ (firstClose ∷ secondClose ∷ lastQuarter ∷ []) (answerOf record₀ firstClose ∷ answerOf record₁ secondClose ∷ answerOf record₁ lastQuarter ∷ []) → ⊥
-unfolding _or_ outside refuse sum products scaled anyPair held badIndex badRelative badWeight badUnits openRecord link figureAt broken callRefusal lateRefusal refusalOf answerOf after directOpen numerator denominator
+pub stopped-closes-fall : AllWithin direct₀ (firstClose ∷ secondClose ∷ lastQuarter ∷ []) (callAnswer record₀ firstClose ∷ callAnswer record₁ secondClose ∷ callAnswer record₁ lastQuarter ∷ []) → ⊥
+unfolding _or_ outside refuse sum products scaled anyPair held badIndex badRelative badWeight badUnits openRecord link figureAt broken callInputRefusal figureRefusal callRefusal callAnswer after directOpen numerator denominator
 stopped-closes-fall w = never _ _ refl (w .1 .1 .0 .notBelow)
 
 -- A chain that only refuses has no figure to bound: it meets demand 3, and falls by demand 2, since its answers are not the defined ones.
-pub only-refusals-within : (d : Direct) (calls : List Call) (n : ℕ) → AllWithin d calls (replicate (length calls) (Answer.refused n))
+pub only-refusals-within : (d : Direct) (calls : List Call) (n : ℕ) → AllWithin d calls (replicate (length calls) (Judged.refused n))
 only-refusals-within d [] n = tt
 only-refusals-within d (call ∷ calls) n = only-refusals-within d calls n
 
-pub only-refusals-fall : (n : ℕ) → answers record₀ listing ≡ replicate 2 (Answer.refused n) → ⊥
+pub only-refusals-fall : (n : ℕ) → answers record₀ listing ≡ replicate 2 (Judged.refused n) → ⊥
 only-refusals-fall n e = let z : _≡_ {A = ℕ} 0 1 = cc (listing-answers) in omega arith

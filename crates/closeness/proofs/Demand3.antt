@@ -7,8 +7,9 @@ use native.Mathlib.Omega.{arith}
 use lib.ListN.{length}
 use lib.Seq.{take-at}
 use Rattle.rules.specs.Limits.{shareScale, relativeScale}
+use Rattle.rules.specs.Refusals.{Judged, judged, stays}
 use Rattle.rules.specs.Lists.{products}
-use Rattle.rules.specs.Chain.{Chain, Call, Answer, Opening, held, relatives, opening, openRefusal, openRecord, openBy, openAnswer, figureOf, refusalOf, answerBy, answerOf, accepted, afterBy, after, answers}
+use Rattle.rules.specs.Chain.{Chain, Call, held, relatives, opening, openRefusal, openRecord, openAnswer, figureOf, callRefusal, callAnswer, accepted, after, answers}
 use Rattle.rules.specs.Direct.{Direct, directOpen, directAfter, numerator, denominator, Within, AllWithin}
 use Rattle.closeness.specs.Losses.{parts, weightLoss, openFloors, floors}
 use Rattle.closeness.specs.Trace.{Trace}
@@ -52,7 +53,7 @@ open-carried ws gs rs start o =
     t = open-tracks ws gs rs start o
 
 -- a record that an open answers is that record, and no refusal
-opened-carried : (ws gs rs : List ℕ) (start n : ℕ) (r : Chain) → openRefusal ws gs rs start ≡ n → openBy n (openRecord ws gs rs start) ≡ Opening.opened r →
+opened-carried : (ws gs rs : List ℕ) (start n : ℕ) (r : Chain) → openRefusal ws gs rs start ≡ n → judged n (openRecord ws gs rs start) ≡ Judged.given r →
     Carried openFloors (directOpen ws gs rs start) r
 opened-carried ws gs rs start zero r e o =
     subst (λ (s : Chain). Carried openFloors (directOpen ws gs rs start) s) (cc) (open-carried ws gs rs start (accepted-open ws gs rs start e))
@@ -68,7 +69,7 @@ call-within d r ps i a =
     within b = record { defined = b .defined; notAbove = omega (arith, b .notAbove); notBelow = omega (arith, b .notBelow) }
 
 -- the record and the exact weights after it
-after-carried : (d : Direct) (r : Chain) (call : Call) → Carried openFloors d r → refusalOf r call ≡ 0 → Carried openFloors (directAfter d call) (accepted r call)
+after-carried : (d : Direct) (r : Chain) (call : Call) → Carried openFloors d r → callRefusal r call ≡ 0 → Carried openFloors (directAfter d call) (accepted r call)
 after-carried d r (Call.quarter ps) i e = i
 after-carried d r (Call.close ps) i e =
     close-carried openFloors (omega arith) (omega arith) d r ps i (accepted-call r (Call.close ps) (i .full) e) (closed-reached r ps (i .full) e)
@@ -76,34 +77,34 @@ after-carried d r (Call.close ps) i e =
 -- ---- every list of calls
 -- An accepted call is within the bound and both sides move on; a refused one has no D and changes neither.
 all-within : (calls : List Call) (d : Direct) (r : Chain) → Carried openFloors d r → AllWithin d calls (answers r calls)
-unfolding answers answerOf after
+unfolding answers callAnswer after
 all-within [] d r i = tt
-all-within (call ∷ calls) d r i = go (refusalOf r call) refl (λ e s j. all-within calls e s j)
+all-within (call ∷ calls) d r i = go (callRefusal r call) refl (λ e s j. all-within calls e s j)
   where
-    go : (n : ℕ) → refusalOf r call ≡ n → ((e : Direct) (s : Chain) → Carried openFloors e s → AllWithin e calls (answers s calls)) →
-        AllWithin d (call ∷ calls) (answerBy n (figureOf r (relatives call)) ∷ answers (afterBy n r (accepted r call)) calls)
+    go : (n : ℕ) → callRefusal r call ≡ n → ((e : Direct) (s : Chain) → Carried openFloors e s → AllWithin e calls (answers s calls)) →
+        AllWithin d (call ∷ calls) (judged n (figureOf r (relatives call)) ∷ answers (stays n r (accepted r call)) calls)
     go zero e rest = (call-within d r (relatives call) i (accepted-call r call (i .full) e), rest (directAfter d call) (accepted r call) (after-carried d r call i e))
     go (suc n) e rest = rest d r i
 
 -- Demand 3: of any open that is accepted, and any calls after it. D is reckoned from the open's arguments and the calls alone.
-pub demand3 : (ws gs rs : List ℕ) (start : ℕ) (r : Chain) → openAnswer ws gs rs start ≡ Opening.opened r →
+pub demand3 : (ws gs rs : List ℕ) (start : ℕ) (r : Chain) → openAnswer ws gs rs start ≡ Judged.given r →
     (calls : List Call) → AllWithin (directOpen ws gs rs start) calls (answers r calls)
 unfolding openAnswer
 demand3 ws gs rs start r o calls = all-within calls _ r (opened-carried ws gs rs start _ r refl o)
 
 -- ---- what a program answers
 -- Answers that meet the contracts one after the other are the defined answers.
-pub trace-answers : {r : Chain} {calls : List Call} {given : List Answer} → Trace r calls given → given ≡ answers r calls
+pub trace-answers : {r : Chain} {calls : List Call} {given : List Judged} → Trace r calls given → given ≡ answers r calls
 unfolding answers
 trace-answers Trace.done = refl
 trace-answers (Trace.next met t) = cc (trace-answers t)
 
 -- There is an answer to every call.
-pub trace-length : {r : Chain} {calls : List Call} {given : List Answer} → Trace r calls given → length given ≡ length calls
+pub trace-length : {r : Chain} {calls : List Call} {given : List Judged} → Trace r calls given → length given ≡ length calls
 trace-length Trace.done = refl
 trace-length (Trace.next met t) = ap suc (trace-length t)
 
 -- Demand 3 of any program whose quarter and close meet their contracts.
-pub demand3-trace : (ws gs rs : List ℕ) (start : ℕ) (r : Chain) → openAnswer ws gs rs start ≡ Opening.opened r →
-    (calls : List Call) (given : List Answer) → Trace r calls given → AllWithin (directOpen ws gs rs start) calls given
+pub demand3-trace : (ws gs rs : List ℕ) (start : ℕ) (r : Chain) → openAnswer ws gs rs start ≡ Judged.given r →
+    (calls : List Call) (given : List Judged) → Trace r calls given → AllWithin (directOpen ws gs rs start) calls given
 demand3-trace ws gs rs start r o calls given t = rw (trace-answers t) (demand3 ws gs rs start r o calls)

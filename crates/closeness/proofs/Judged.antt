@@ -11,8 +11,9 @@ use lib.ListN.{length}
 use Rattle.rules.specs.Limits.{shareScale, relativeScale, lowestRelative, highestRelative, leastWeight, lowestIndex, mostCloses}
 use Rattle.rules.specs.Tests.{_or_, outside}
 use Rattle.rules.specs.Lists.{sum, products, scaled, anyPair}
-use Rattle.rules.specs.Chain.{Chain, Call, held, relatives, figureOf, shared, opening, badIndex, badRelative, badWeight, badOpenLists, broken, callRefusal, lateRefusal, refusalOf, openRefusal}
-use Rattle.rules.proofs.Tests.{or-false, refuse-none}
+use Rattle.rules.specs.Chain.{Chain, Call, held, relatives, figureOf, shared, opening, badIndex, badRelative, badWeight, badOpenLists, broken, callInputRefusal, figureRefusal, callRefusal, openRefusal}
+use Rattle.rules.proofs.Tests.{or-false}
+use Rattle.rules.proofs.Refusals.{refuse-none}
 use Rattle.closeness.proofs.Weights.{Reached}
 
 -- Of each place: the relative is 0 for an absent unit, whose mark is 0, and at least `low` for a present one.
@@ -89,8 +90,8 @@ weighs r e =
     let n : _ = eqb-false (sum (held r)) 0 (or-false _ _ (or-false _ _ e .0) .1) in
     pos-of-ne-zero n
 
-admitted : (r : Chain) (ps : List ℕ) (later : ℕ) → length (held r) ≡ r .units → callRefusal r ps later ≡ 0 → Admitted r ps later
-unfolding callRefusal
+admitted : (r : Chain) (ps : List ℕ) (later : ℕ) → length (held r) ≡ r .units → callInputRefusal r ps later ≡ 0 → Admitted r ps later
+unfolding callInputRefusal
 admitted r ps later full e =
     let p19 : _ = refuse-none _ 18 _ e in
     let p9 : _ = refuse-none _ 8 _ (p19 .1) in
@@ -99,28 +100,28 @@ admitted r ps later full e =
     record { weighted = weighs r (p19 .0); long = long; fits = fit _ _ (long ∙ sym full) (p13 .0); accepts = p13 .1 }
 
 -- 23 and 24 do not apply
-late : (r : Chain) (ps : List ℕ) → lateRefusal r ps ≡ 0 → (lowestIndex ≤ figureOf r ps) × (r .closes < mostCloses)
-unfolding lateRefusal badIndex outside
+late : (r : Chain) (ps : List ℕ) → figureRefusal r ps ≡ 0 → (lowestIndex ≤ figureOf r ps) × (r .closes < mostCloses)
+unfolding figureRefusal badIndex outside
 late r ps e =
     let p23 : _ = refuse-none _ 22 _ e in
     let p24 : _ = refuse-none _ 23 _ (p23 .1) in
     (ltb-false _ _ (or-false _ _ (p23 .0) .0), leb-false _ _ (p24 .0))
 
-accepted-late : (r : Chain) (ps : List ℕ) (later : ℕ) → Admitted r ps later → lateRefusal r ps ≡ 0 → Accepted r ps
+accepted-late : (r : Chain) (ps : List ℕ) (later : ℕ) → Admitted r ps later → figureRefusal r ps ≡ 0 → Accepted r ps
 accepted-late r ps later a e =
     let l : _ = late r ps e in
     record { weighted = a .weighted; few = l .1; long = a .long; fits = a .fits; high = l .0 }
 
-pub accepted-call : (r : Chain) (call : Call) → length (held r) ≡ r .units → refusalOf r call ≡ 0 → Accepted r (relatives call)
-unfolding refusalOf
+pub accepted-call : (r : Chain) (call : Call) → length (held r) ≡ r .units → callRefusal r call ≡ 0 → Accepted r (relatives call)
+unfolding callRefusal
 accepted-call r (Call.quarter ps) full e = let a : _ = admitted r ps _ full e in accepted-late r ps _ a (a .accepts)
 accepted-call r (Call.close ps) full e =
     let a : _ = admitted r ps _ full e in
     accepted-late r ps _ a (refuse-none _ 21 _ (refuse-none _ 20 _ (a .accepts) .1) .1)
 
 -- the new weights of an accepted close
-pub closed-reached : (r : Chain) (ps : List ℕ) → length (held r) ≡ r .units → refusalOf r (Call.close ps) ≡ 0 → Reached leastWeight relativeScale (held r) ps
-unfolding refusalOf
+pub closed-reached : (r : Chain) (ps : List ℕ) → length (held r) ≡ r .units → callRefusal r (Call.close ps) ≡ 0 → Reached leastWeight relativeScale (held r) ps
+unfolding callRefusal
 closed-reached r ps full e =
     let a : _ = admitted r ps _ full e in
     reached relativeScale (held r) refl (a .fits) (refuse-none _ 20 _ (a .accepts) .0)

@@ -8,7 +8,8 @@ use lib.Dec.{ltb}
 use native.Mathlib.Omega.{arith}
 use native.Mathlib.Nat.{pow-suc}
 use borrow.Author.Tests.{lt-ltb, le-ltb, ltb-true, ltb-false}
-use Rattle.rules.specs.Lines.{digitsOn, decimalOn, lineOf, lineOf2}
+use Rattle.rules.specs.Decimal.{digitsOn, decimalOn}
+use Rattle.rules.specs.Lines.{lineOf, lineOf2}
 use Rattle.decimal.specs.Put.{digitsOf}
 
 none : (n : ℕ) (text : List ℕ) → digitsOn zero n text ≡ text

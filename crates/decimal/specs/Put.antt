@@ -3,7 +3,7 @@ use Prim.Native.Nat.{ℕ, _+_}
 use mathlib.Core.Path.{_≡_}
 use mathlib.Core.List.{List, [], _++_}
 use lib.ListN.{length, take, drop}
-use Rattle.rules.specs.Lines.{decimalOn}
+use Rattle.rules.specs.Decimal.{decimalOn}
 
 -- the decimal digits of n alone
 abbrev pub digitsOf : ℕ → List ℕ

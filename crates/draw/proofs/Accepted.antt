@@ -6,9 +6,9 @@ use Prim.Native.Nat.{ℕ, _+_, _-_, _≤_, _<_}
 use native.Mathlib.Omega.{arith}
 use lib.ListN.{length, getD, drop}
 use Rattle.rules.specs.Limits.{randomRange}
+use Rattle.rules.specs.Refusals.{written}
 use Rattle.rules.specs.Selection.{count, listed}
-use Rattle.rules.specs.TakeAll.{Frame, frame, largest, takeAllSize, restTurnover, takeAllGroup, baseWeight, written}
-use Rattle.rules.specs.TakeAll.{Group as RulesGroup}
+use Rattle.rules.specs.TakeAll.{Frame, frame, largest, takeAllSize, restTurnover, takeAllGroup, baseWeight, Group as RulesGroup}
 use Rattle.rules.specs.Draw.{drawnBy, panelNumbers, panelWeights, drawRefusal, drawNumbers, drawWeights}
 use Rattle.frame.proofs.Accepted.{Accepted}
 use Rattle.selection.proofs.Sums.{listed-length}

@@ -7,12 +7,14 @@ use native.Mathlib.Omega.{arith}
 use lib.ListN.{length}
 use lib.Dec.{ltb}
 use borrow.Author.Tests.{ltb-false}
-use Rattle.rules.specs.Tests.{_or_, refuse}
+use Rattle.rules.specs.Tests.{_or_}
+use Rattle.rules.specs.Refusals.{refuse, _then_}
 use Rattle.rules.specs.TakeAll.{Frame, takeAllGroup}
-use Rattle.rules.specs.Draw.{refused, drawn, frameRefusal, drawRefusal, drawAnswer, drawNumbers, drawWeights}
+use Rattle.rules.specs.Draw.{frameRefusal, drawRefusal, drawAnswer, drawNumbers, drawWeights}
 use Rattle.refusals.specs.Number.{numberOf}
 use Rattle.refusals.specs.declared.Refusal.{Refusal}
-use Rattle.rules.proofs.Tests.{or-on, or-off, or-false, refuse-none}
+use Rattle.rules.proofs.Tests.{or-on, or-off, or-false}
+use Rattle.rules.proofs.Refusals.{refuse-none}
 use Rattle.frame.proofs.Refusals.{goes, stops}
 use Rattle.refusals.proofs.Numbers.{number-some}
 use Rattle.takeall.proofs.Refusals.{written-refused}

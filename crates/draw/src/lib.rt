@@ -1,6 +1,6 @@
 // The draw (document 01, "Frame and weights" and "Draw"; 001, section 2.3 and formulas 21 and 22): a panel of z units of a frame, under a start.
-use frame::MOST_FRAME;
 use group::Group;
+use limits::MOST_FRAME;
 use refusals::Refusal;
 use refusals::Verdict;
 ghost use mathlib.Core.Path.{_≡_};

@@ -6,7 +6,7 @@ use mathlib.Core.List.{List}
 use lib.Dec.{leb}
 use lib.ListN.{length}
 use Rattle.rules.specs.Limits.{mostWeight, highestIndex, mostCloses}
-use Rattle.rules.specs.Tests.{refuse}
+use Rattle.rules.specs.Refusals.{refuse, _then_}
 use Rattle.rules.specs.Lists.{sum, anyPair}
 use Rattle.rules.specs.Chain as rules
 

@@ -1,22 +1,21 @@
 // Document 01, "Chain record": what quarter and close share, the refusals that come first and last, and the figure. The record's places are lent,
 // so that no call copies them.
-use passes::MOST_WEIGHT;
+use limits::LINK_SCALE;
+use limits::MOST_CLOSES;
+use limits::MOST_WEIGHT;
+use limits::bad_index;
+use limits::bad_units;
 use refusals::Refusal;
 use refusals::Verdict;
 use relative::Relative;
-use weights::index::bad_index;
 ghost use mathlib.Core.Path.{_≡_};
 ghost use Prim.Native.Nat.{_+_, _*_, _/_, _<_, _≤_};
 ghost use lib.ListN.{length, take};
 ghost use Rattle.refusals.specs.Number.{verdictOf};
 ghost use Rattle.rules.specs.Limits.{mostPanel, mostWeight, highestRelative, linkScale};
-ghost use Rattle.rules.specs.Chain.{broken, callRefusal, figureAt};
+ghost use Rattle.rules.specs.Chain.{broken, callInputRefusal, figureAt};
 ghost use Rattle.passes.specs.WeightRefusal.{weightRefusal};
 ghost use Rattle.figures.specs.Steps.{recordWith, lastRefusal, Reckonable};
-
-pub const MOST_CLOSES: u64 = 40;
-
-pub const LINK_SCALE: u64 = 10_000;
 
 // 19: whether the record breaks a limit. The number of units is judged before the places are looked at.
 fn is_broken(places: &[u64], units: usize, index: u64, closes: u64) -> bool
@@ -46,7 +45,7 @@ fn is_broken(places: &[u64], units: usize, index: u64, closes: u64) -> bool
 // 19, 9 and 13.
 pub fn judge_call(places: &[u64], units: usize, index: u64, closes: u64, p: &[u32]) -> Verdict
     requires { ⌜ length (now places) ≡ mostPanel ⌝ }
-    ensures { λ r. ⌜ verdictOf r ≡ callRefusal (recordWith (now (places .entry)) units index closes) (now (p .entry)) 0 ⌝ }
+    ensures { λ r. ⌜ verdictOf r ≡ callInputRefusal (recordWith (now (places .entry)) units index closes) (now (p .entry)) 0 ⌝ }
 {
     if is_broken(places, units, index, closes) {
         return Verdict::Refused(Refusal::State);

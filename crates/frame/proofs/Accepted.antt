@@ -10,12 +10,12 @@ use lib.Dec.{eqb}
 use lib.ListN.{length, getD, drop}
 use borrow.Author.Tests.{ltb-false, leb-false, eqb-true, eqb-false, not-false}
 use Rattle.rules.proofs.Tests.{or-false}
+use Rattle.rules.proofs.Lists.{any-none, rising-below, sum-step, sum-end}
 use Rattle.rules.specs.Limits.{mostFrame, mostTurnover, randomRange, mostPanel}
 use Rattle.rules.specs.Lists.{sum}
 use Rattle.rules.specs.Selection.{sumOf, every}
 use Rattle.rules.specs.TakeAll.{Frame, turnover, badCount, badTurnovers, badSize}
 use Rattle.rules.specs.Draw.{badLists, badRandom, frameRefusal}
-use Rattle.frame.proofs.Lists.{any-none, rising-below, sum-next, sum-end}
 use Rattle.frame.proofs.Refusals.{passed}
 
 -- a place of a list is at most the list's sum
@@ -31,7 +31,7 @@ unfolding sumOf
 sum-split ts zero h = omega arith
 sum-split ts (suc i) h =
     let before = sum-split ts i (omega arith) in
-    let here : sum (drop i ts) ≡ getD ts i 0 + sum (drop (suc i) ts) = rw add-one at (sum-next ts i (omega arith)) in
+    let here : sum (drop i ts) ≡ getD ts i 0 + sum (drop (suc i) ts) = rw add-one at (sum-step ts i (omega arith)) in
     omega arith
 
 -- the list's sum is the sum over all units

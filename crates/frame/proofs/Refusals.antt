@@ -3,11 +3,13 @@ use Prim.Native.Nat.{ℕ}
 use mathlib.Core.Bool.{true, false}
 use mathlib.Core.Path.{_≡_, refl}
 use borrow.Author.Tests.{not-false}
-use Rattle.rules.specs.Tests.{_or_, refuse}
+use Rattle.rules.specs.Tests.{_or_}
+use Rattle.rules.specs.Refusals.{refuse, _then_}
 use Rattle.rules.specs.Lists.{rising, anyOf}
 use Rattle.rules.specs.TakeAll.{Frame, badTurnovers, badSize}
 use Rattle.rules.specs.Draw.{badLists, badRandom, frameRefusal}
-use Rattle.rules.proofs.Tests.{or-false, refuse-none, refuse-keeps}
+use Rattle.rules.proofs.Tests.{or-false}
+use Rattle.rules.proofs.Refusals.{refuse-none, then-stops}
 
 module _ (f : Frame) (z start later : ℕ) where
   pub lists-refused : badLists f ≡ true → frameRefusal f z start later ≡ 1

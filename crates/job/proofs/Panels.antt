@@ -12,12 +12,13 @@ use borrow.Author.Tests.{le-ltb}
 use Rattle.refusals.specs.declared.Refusal.{Refusal}
 use Rattle.refusals.specs.Number.{numberOf}
 use Rattle.rules.specs.Limits.{mostPanel}
-use Rattle.rules.specs.Tests.{_or_, refuse}
+use Rattle.rules.specs.Tests.{_or_}
+use Rattle.rules.specs.Refusals.{refuse, written, Judged, judged, _then_}
 use Rattle.rules.specs.Selection.{byKey, listed}
-use Rattle.rules.specs.TakeAll.{Frame, Group, takeAllGroup, baseWeight, written}
-use Rattle.rules.specs.Draw.{DrawAnswer, keyBelow, sampledBy, drawnBy, panelNumbers, panelWeights, frameRefusal, drawRefusal, drawBy, drawAnswer, drawNumbers, drawWeights}
+use Rattle.rules.specs.TakeAll.{Frame, Group, takeAllGroup, baseWeight}
+use Rattle.rules.specs.Draw.{keyBelow, sampledBy, drawnBy, panelNumbers, panelWeights, frameRefusal, drawRefusal, drawAnswer, drawNumbers, drawWeights}
+use Rattle.rules.specs.Job.{withPanel, onDraw}
 use Rattle.rules.specs.Job as rules
-use Rattle.rules.specs.Job.{refuses, drawnJob, drawStep, onDraw}
 use Rattle.frame.proofs.Refusals.{goes, stops}
 use Rattle.frame.proofs.Accepted.{accepted}
 use Rattle.selection.proofs.Panel.{panel-length}
@@ -33,11 +34,11 @@ pub filled : (l : List ℕ) (places x : ℕ) → l ≡ replicate places x → le
 filled l places x e = ap length e ∙ length-replicate places x
 
 -- the step by the refusal that the draw's answer shows
-by-refused : (n k : ℕ) (g : Group) (j : rules.Job) (z : ℕ) (ns ws : List ℕ) → DrawAnswer.refused k ≡ drawBy n g → drawStep n j z ns ws ≡ refuses j k
+by-refused : (n k : ℕ) (g : Group) (j : rules.Job) (z : ℕ) (ns ws : List ℕ) → Judged.refused k ≡ judged n g → drawStep n j z ns ws ≡ refuses j k
 by-refused zero k g j z ns ws e = cc
 by-refused (suc n) k g j z ns ws e = cc
 
-by-drawn : (n a b : ℕ) (g : Group) → DrawAnswer.drawn a b ≡ drawBy n g → n ≡ 0
+by-drawn : (n a b : ℕ) (g : Group) → Judged.given a b ≡ judged n g → n ≡ 0
 by-drawn zero a b g e = refl
 by-drawn (suc n) a b g e = cc
 
@@ -86,21 +87,21 @@ made next drawn left ns ws w n p =
     cc
 
 module _ (j : Job) (z start : ℕ) (numbers weights : List ℕ) (hn : length numbers ≡ mostPanel) (hw : length weights ≡ mostPanel) where
-  abbrev judged : DrawAnswer
-  judged = drawBy (frameRefusal (jobOf j .units) z start 0) (takeAllGroup (jobOf j .units .turnovers) z)
+  abbrev judged : Judged
+  judged = judged (frameRefusal (jobOf j .units) z start 0) (takeAllGroup (jobOf j .units .turnovers) z)
 
   by-frame : drawAnswer (jobOf j .units) z start numbers weights ≡ judged
   unfolding drawAnswer
-  by-frame = ap (λ (n : ℕ). drawBy n (takeAllGroup (jobOf j .units .turnovers) z)) (no-room-needed (jobOf j .units) z start numbers weights hn hw)
+  by-frame = ap (λ (n : ℕ). judged n (takeAllGroup (jobOf j .units .turnovers) z)) (no-room-needed (jobOf j .units) z start numbers weights hn hw)
 
-  pub draw-refused : (r : Stepped) (why : Refusal) → DrawAnswer.refused (numberOf why) ≡ drawAnswer (jobOf j .units) z start numbers weights → r .job ≡ j → r .says ≡ Refused why → stepFrom r ≡ onDraw (jobOf j) z start
+  pub draw-refused : (r : Stepped) (why : Refusal) → Judged.refused (numberOf why) ≡ drawAnswer (jobOf j .units) z start numbers weights → r .job ≡ j → r .says ≡ Refused why → stepFrom r ≡ onDraw (jobOf j) z start
   unfolding onDraw
   draw-refused r why a p q =
       stepped r j (Refused why) p q
       ∙ sym (by-refused (frameRefusal (jobOf j .units) z start 0) (numberOf why) (takeAllGroup (jobOf j .units .turnovers) z) (jobOf j) z _ _ (a ∙ by-frame))
 
-  pub draw-accepted : (next : Job) (drawn : List ℕ) (a b : ℕ) → DrawAnswer.drawn a b ≡ drawAnswer (jobOf j .units) z start numbers weights → next .size ≡ z → drawn ≡ drawNumbers (jobOf j .units) z start numbers weights → jobOf next ≡ drawnJob (jobOf j) (min z mostPanel) (take z (drawWeights (jobOf j .units) z start numbers weights)) → stepFrom (record { job = next; says = Panel; numbers = drawn }) ≡ onDraw (jobOf j) z start
-  unfolding onDraw drawnJob drawNumbers drawWeights
+  pub draw-accepted : (next : Job) (drawn : List ℕ) (a b : ℕ) → Judged.given a b ≡ drawAnswer (jobOf j .units) z start numbers weights → next .size ≡ z → drawn ≡ drawNumbers (jobOf j .units) z start numbers weights → jobOf next ≡ withPanel (jobOf j) (min z mostPanel) (take z (drawWeights (jobOf j .units) z start numbers weights)) → stepFrom (record { job = next; says = Panel; numbers = drawn }) ≡ onDraw (jobOf j) z start
+  unfolding onDraw withPanel drawNumbers drawWeights
   draw-accepted next drawn a b d s ns w =
       let f = jobOf j .units in
       let g = takeAllGroup (f .turnovers) z in
@@ -109,8 +110,8 @@ module _ (j : Job) (z start : ℕ) (numbers weights : List ℕ) (hn : length num
       let few : min z mostPanel ≡ z = min-eq-left (accepted f z start e .units .sizeFew) in
       let pn = front (drawRefusal f z start numbers weights) (panelNumbers f g start) numbers z o (panel-numbers f z start e) in
       let pw = front (drawRefusal f z start numbers weights) (panelWeights f g start) weights z o (panel-weights f z start e) in
-      let left : jobOf next ≡ drawnJob (jobOf j) z (panelWeights f g start) =
-      w ∙ ap (λ (m : ℕ). drawnJob (jobOf j) m (take z (drawWeights f z start numbers weights))) few ∙ ap (drawnJob (jobOf j) z) pw in
+      let left : jobOf next ≡ withPanel (jobOf j) z (panelWeights f g start) =
+      w ∙ ap (λ (m : ℕ). withPanel (jobOf j) m (take z (drawWeights f z start numbers weights))) few ∙ ap (withPanel (jobOf j) z) pw in
       let places = ap (λ (m : ℕ). take m drawn) s ∙ ap (λ (l : List ℕ). take z l) ns ∙ pn in
-      made next drawn (drawnJob (jobOf j) z (panelWeights f g start)) (panelNumbers f g start) (panelWeights f g start) left places refl
+      made next drawn (withPanel (jobOf j) z (panelWeights f g start)) (panelNumbers f g start) (panelWeights f g start) left places refl
       ∙ ap (λ (m : ℕ). drawStep m (jobOf j) z (panelNumbers f g start) (panelWeights f g start)) (sym e)

@@ -1,10 +1,10 @@
 // Document 01, "Job stream": what each command does to the job; here the draw of a panel from the frame so far.
 use draw::Answer;
 use jobstate::Job;
-use jobstate::MOST_HELD;
 use jobstate::Saying;
 use jobstate::Stepped;
 use jobstate::said;
+use limits::MOST_HELD;
 use stream::Command;
 ghost use mathlib.Core.Path.{_≡_};
 ghost use Rattle.rules.specs.Job.{onDraw, step};

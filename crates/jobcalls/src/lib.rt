@@ -1,12 +1,12 @@
 // Document 01, "Job stream": the commands on the chain, open, quarter and close; refusal 19.
 use chain::Answer;
-use frame::MOST_PANEL;
 use jobstate::Job;
 use jobstate::Saying;
 use jobstate::Stepped;
 use jobstate::said;
 use jobstate::with_chain;
 use jobstate::within;
+use limits::MOST_PANEL;
 use opening::Opening;
 use refusals::Refusal;
 ghost use mathlib.Core.Path.{_≡_};

@@ -8,7 +8,7 @@ use lib.Seq.{take-suc-set}
 use borrow.Author.Tests.{le-leb, lt-leb}
 use Rattle.rules.specs.Limits.{mostHeld}
 use Rattle.rules.specs.TakeAll.{frame}
-use Rattle.rules.specs.Job.{Job, Saying, onUnit, onShare, onRelative, refuses, snoc}
+use Rattle.rules.specs.Job.{Job, Saying, onUnit, onShare, onRelative, snoc}
 
 -- one more place is named, and holds what was stored there
 pub joined : (l : List ℕ) (at x : ℕ) → at < length l → take (at + 1) (set l at x) ≡ snoc (take at l) x

@@ -1,12 +1,12 @@
 // Document 01, "Job stream": the commands that give a value, a unit of the frame, a share and a relative of the panel; refusals 18 and 20.
 // Whoever uses the value judges it.
-use frame::MOST_PANEL;
 use jobstate::Job;
-use jobstate::MOST_HELD;
 use jobstate::Saying;
 use jobstate::Stepped;
 use jobstate::said;
 use jobstate::within;
+use limits::MOST_HELD;
+use limits::MOST_PANEL;
 use refusals::Refusal;
 ghost use mathlib.Core.Path.{_≡_};
 ghost use Rattle.rules.specs.Job.{onUnit, onShare, onRelative};

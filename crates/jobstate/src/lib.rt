@@ -1,19 +1,17 @@
 // Document 01, "Job stream": what a job holds, what a command says, and the jobs that commands leave.
 // A job is held by value, and any value of the type is a job: a count beyond an array's places reads as all of them.
 use chain::Chain;
-use openinput::SHARE_SCALE;
+use limits::MOST_HELD;
+use limits::MOST_PANEL;
+use limits::SHARE_SCALE;
 use refusals::Refusal;
-use weights::MOST_PANEL;
 ghost use mathlib.Core.Path.{_≡_};
 ghost use Prim.Native.Nat.{min};
 ghost use lib.ListN.{replicate, take};
 ghost use Rattle.rules.specs.Limits.{mostHeld, mostPanel};
-ghost use Rattle.rules.specs.Job.{emptyJob, withChain, drawnJob};
+ghost use Rattle.rules.specs.Job.{emptyJob, withChain, withPanel};
 ghost use Rattle.chain.specs.Record.{recordOf};
 ghost use Rattle.jobstate.specs.State.{jobOf};
-
-// Units that a job holds.
-pub const MOST_HELD: usize = 1024;
 
 // The frame so far, the W of the drawn panel with its shares and pending relatives, and the chain if it is open.
 pub struct Job {
@@ -107,7 +105,7 @@ pub fn with_chain(job: Job, chain: Chain) -> Job
 
 // The job after an accepted draw: a panel with whole shares, no relatives and no chain; the frame stays.
 pub fn drawn(job: Job, size: usize, weights: [u64; MOST_PANEL]) -> Job
-    ensures { λ r. ⌜ (r .size ≡ size) × (jobOf r ≡ drawnJob (jobOf job) (min size mostPanel) (take size weights)) ⌝ }
+    ensures { λ r. ⌜ (r .size ≡ size) × (jobOf r ≡ withPanel (jobOf job) (min size mostPanel) (take size weights)) ⌝ }
 {
     let whole = places(SHARE_SCALE as u32);
     let pending = places(0);

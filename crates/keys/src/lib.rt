@@ -1,7 +1,7 @@
 // Random numbers and keys (document 01, "Draw"; 001, formulas 21 and 22). A key is a fraction of two 64-bit products, compared
 // exactly by crate `fraction`; what limits of the frame make the products fit is asked for in `requires`.
 use fraction::Fraction;
-use frame::RANDOM_RANGE;
+use limits::RANDOM_RANGE;
 ghost use mathlib.Core.Path.{_≡_};
 ghost use Prim.Native.Nat.{_-_, _*_, _<_, _≤_};
 ghost use lib.ListN.{length};

@@ -1,8 +1,10 @@
 // One step of a rotation (document 01, "Rotation"): the start that it leads to, who of the members leaves there, the first step at which enough
 // leave, and the leavers' numbers written out. A step looks for the last sampled unit under its start and holds each member against it.
-use frame::MOST_PANEL;
-use frame::RANDOM_RANGE;
 use group::Group;
+use limits::MOST_PANEL;
+use limits::RANDOM_RANGE;
+use limits::STEPS;
+use limits::STEP_LENGTH;
 use members::Places;
 use panel::told;
 ghost use mathlib.Core.Path.{_≡_};
@@ -16,12 +18,6 @@ ghost use Rattle.terms.specs.Terms.{unnumbered};
 ghost use Rattle.leavers.specs.Leaving.{memberLeaves, firstStep, inPlaceOrder};
 ghost use Rattle.leavers.specs.Buffer.{Written};
 ghost use Rattle.leavers.specs.Search.{Within, Searched};
-
-// Steps that are tried, 0 to 999.
-pub const STEPS: u32 = 1000;
-
-// How far a step moves the start.
-pub const STEP_LENGTH: u32 = 1000;
 
 // "(old + 1,000 × k) mod 1,000,000"
 pub fn start_at(old: u32, k: u32) -> u32

@@ -12,9 +12,9 @@ use lib.Seq.{getD-drop}
 use lib.Dec.{eqb}
 use borrow.Author.Tests.{eq-eqb, ne-eqb}
 use Rattle.rules.proofs.Tests.{or-off}
+use Rattle.rules.proofs.Lists.{rising-below}
 use Rattle.rules.specs.Limits.{mostPanel}
 use Rattle.rules.specs.Lists.{rising, anyOf, elem}
-use Rattle.frame.proofs.Lists.{any-here, any-next, any-end, rising-below}
 use Rattle.members.specs.declared.Places.{Places}
 use Rattle.members.specs.Places.{PlacesOf, inPanel}
 use Rattle.members.proofs.Held.{held, hold-none, hold-skip, hold-not, hold-more}

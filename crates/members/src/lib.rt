@@ -1,7 +1,7 @@
 // The members of a rotation (document 01, "Rotation"): "old panel units that are in the frame and not take-all now". They do not
 // depend on the start, so a rotation finds them once and each step looks at them alone.
-use frame::MOST_PANEL;
 use group::Group;
+use limits::MOST_PANEL;
 ghost use mathlib.Core.Path.{_≡_};
 ghost use mathlib.Core.Bool.{true};
 ghost use mathlib.Core.List.{[]};

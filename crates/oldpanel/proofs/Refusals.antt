@@ -7,12 +7,13 @@ use native.Mathlib.Omega.{arith}
 use lib.ListN.{length}
 use borrow.Author.Tests.{lt-ltb, le-ltb, ltb-false, not-false}
 use Rattle.rules.specs.Limits.{fractionScale, mostPanel}
-use Rattle.rules.specs.Tests.{refuse}
+use Rattle.rules.specs.Refusals.{refuse, _then_}
 use Rattle.rules.specs.Lists.{rising}
 use Rattle.rules.specs.TakeAll.{Frame}
 use Rattle.rules.specs.Draw.{frameRefusal}
 use Rattle.rules.specs.Rotation.{badOldPanel}
-use Rattle.rules.proofs.Tests.{or-false, refuse-none, refuse-keeps}
+use Rattle.rules.proofs.Tests.{or-false}
+use Rattle.rules.proofs.Refusals.{refuse-none, then-stops}
 use Rattle.frame.proofs.Refusals.{goes, stops}
 use Rattle.refusals.specs.declared.Refusal.{Refusal}
 use Rattle.refusals.specs.Number.{numberOf}

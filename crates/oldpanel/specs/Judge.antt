@@ -3,7 +3,7 @@ use Prim.Native.Nat.{ℕ}
 use mathlib.Core.List.{List}
 use lib.ListN.{length}
 use lib.Dec.{ltb}
-use Rattle.rules.specs.Tests.{refuse}
+use Rattle.rules.specs.Refusals.{refuse, _then_}
 use Rattle.rules.specs.TakeAll.{Frame}
 use Rattle.rules.specs.Draw.{frameRefusal}
 use Rattle.rules.specs.Rotation.{badOldPanel}

@@ -1,6 +1,7 @@
 // What a rotation refuses before it looks at any step (document 01, refusals 1 to 7): the frame with the old start, the leavers'
 // buffer, and the old panel with the fraction, in this order.
-use frame::MOST_PANEL;
+use limits::FRACTION_SCALE;
+use limits::MOST_PANEL;
 use refusals::Refusal;
 use refusals::Verdict;
 ghost use mathlib.Core.Path.{_≡_};
@@ -8,9 +9,6 @@ ghost use Rattle.rules.specs.TakeAll.{frame};
 ghost use Rattle.rules.specs.Rotation.{badOldPanel};
 ghost use Rattle.refusals.specs.Number.{verdictOf};
 ghost use Rattle.oldpanel.specs.Judge.{oldRefusal, earlyRefusal};
-
-// The fraction is in thousandths.
-pub const FRACTION_SCALE: u32 = 1000;
 
 // 7: "f over 1,000, or old panel over 100 or not rising"
 fn bad_old_panel(panel: &[u32], fraction: u32) -> bool

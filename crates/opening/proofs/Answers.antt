@@ -5,18 +5,19 @@ use native.Mathlib.Omega.{arith}
 use lib.ListN.{drop, replicate}
 use Rattle.refusals.specs.Number.{numberOf}
 use Rattle.refusals.specs.declared.Refusal.{Refusal}
-use Rattle.rules.specs.Chain.{Chain, openBy}
+use Rattle.rules.specs.Refusals.{judged}
+use Rattle.rules.specs.Chain.{Chain}
 use Rattle.rules.specs.Chain as rules
 use Rattle.refusals.proofs.Numbers.{number-is-suc}
 use Rattle.opening.specs.Opened.{emptyRecord, recordBy}
 
-pub refused-answer : (n : ℕ) (c : Chain) (why : Refusal) → n ≡ numberOf why → rules.Opening.refused (numberOf why) ≡ openBy n c
+pub refused-answer : (n : ℕ) (c : Chain) (why : Refusal) → n ≡ numberOf why → rules.Opening.refused (numberOf why) ≡ judged n c
 refused-answer n c why e = rw (e, number-is-suc why)
 
 pub refused-record : (n : ℕ) (c : Chain) (why : Refusal) → n ≡ numberOf why → emptyRecord ≡ recordBy n c
 refused-record n c why e = rw (e, number-is-suc why)
 
-pub accepted-answer : (n : ℕ) (c d : Chain) → n ≡ 0 → c ≡ d → rules.Opening.opened c ≡ openBy n d
+pub accepted-answer : (n : ℕ) (c d : Chain) → n ≡ 0 → c ≡ d → rules.Opening.opened c ≡ judged n d
 accepted-answer n c d e h = rw (e, h)
 
 pub accepted-record : (n : ℕ) (c d : Chain) → n ≡ 0 → c ≡ d → c ≡ recordBy n d

@@ -12,7 +12,6 @@ use Rattle.rules.specs.Limits.{shareScale}
 use Rattle.rules.specs.Lists.{sum, products, scaled, anyOf}
 use Rattle.rules.specs.Chain.{shared}
 use Rattle.rules.proofs.Tests.{or-false}
-use Rattle.passes.proofs.Lists.{products-bound}
 use Rattle.openinput.proofs.Input.{Input}
 use Rattle.openweights.specs.Places.{Fillable}
 

@@ -1,8 +1,8 @@
 // Document 01, "Chain record": the opening of a chain record from base weights W, shares g, updating relatives a and a start index.
 use chain::Chain;
+use limits::MOST_PANEL;
 use refusals::Refusal;
 use refusals::Verdict;
-use weights::MOST_PANEL;
 ghost use mathlib.Core.Path.{_≡_};
 ghost use lib.ListN.{replicate};
 ghost use Rattle.rules.specs.Limits.{mostPanel};

@@ -9,10 +9,11 @@ use borrow.Author.Tests.{ltb-false, eqb-true, not-false}
 use Rattle.refusals.specs.Number.{numberOf}
 use Rattle.refusals.specs.declared.Refusal.{Refusal}
 use Rattle.rules.specs.Limits.{shareScale, mostPanel, mostWeight}
-use Rattle.rules.specs.Tests.{refuse}
+use Rattle.rules.specs.Refusals.{refuse, _then_}
 use Rattle.rules.specs.Lists.{sum, anyOf, anyPair}
 use Rattle.rules.specs.Chain.{badUnits, badOpenLists, badBase, badShares, badIndex, badRelative}
-use Rattle.rules.proofs.Tests.{or-false, refuse-none, refuse-keeps}
+use Rattle.rules.proofs.Tests.{or-false}
+use Rattle.rules.proofs.Refusals.{refuse-none, then-stops}
 use Rattle.weights.proofs.Units.{units-most}
 use Rattle.refusals.proofs.Numbers.{not-none}
 use Rattle.openinput.specs.Input.{inputRefusal}

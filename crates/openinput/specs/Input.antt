@@ -1,7 +1,7 @@
 -- Document 01, "Chain record", open: the refusals of its input.
 use Prim.Native.Nat.{ℕ}
 use mathlib.Core.List.{List}
-use Rattle.rules.specs.Tests.{refuse}
+use Rattle.rules.specs.Refusals.{refuse, _then_}
 use Rattle.rules.specs.Lists.{anyPair}
 use Rattle.rules.specs.Chain.{badOpenLists, badBase, badShares, badIndex, badRelative}
 

@@ -1,10 +1,11 @@
 // Document 01, "Chain record", open: what is refused of the input, 9 to 13.
-use passes::MOST_WEIGHT;
+use limits::MOST_WEIGHT;
+use limits::SHARE_SCALE;
+use limits::bad_index;
+use limits::bad_units;
 use refusals::Refusal;
 use refusals::Verdict;
 use weights::bad_relative;
-use weights::bad_units;
-use weights::index::bad_index;
 ghost use mathlib.Core.Path.{_≡_};
 ghost use Prim.Native.Nat.{_≤_};
 ghost use lib.ListN.{length};
@@ -13,9 +14,6 @@ ghost use Rattle.rules.specs.Limits.{mostPanel};
 ghost use Rattle.rules.specs.Lists.{anyPair};
 ghost use Rattle.rules.specs.Chain.{badOpenLists, badBase, badShares, badRelative};
 ghost use Rattle.openinput.specs.Input.{inputRefusal};
-
-// A share of 1. Weights are 64-bit, and so is what divides them.
-pub const SHARE_SCALE: u64 = 10_000;
 
 // 9: lists empty, over a panel, or unequal to each other.
 fn bad_lists(w: &[u64], g: &[u32], a: &[u32]) -> bool

@@ -12,7 +12,7 @@ use Rattle.rules.specs.Tests.{_or_}
 use Rattle.rules.specs.Lists.{scaled, anyPair}
 use Rattle.rules.specs.Chain.{badWeight, opening}
 use Rattle.rules.proofs.Tests.{or-on, or-second, or-off, or-exchange}
-use Rattle.passes.proofs.Lists.{drop-step, drop-end}
+use Rattle.rules.proofs.Lists.{drop-step, drop-end}
 use Rattle.openweights.specs.Places.{lowWeights}
 
 -- u and v of one unit

@@ -6,7 +6,8 @@ use mathlib.Core.List.{List}
 use lib.Dec.{ltb}
 use lib.ListN.{length}
 use Rattle.rules.specs.Limits.{mostWeight}
-use Rattle.rules.specs.Tests.{_or_, refuse}
+use Rattle.rules.specs.Tests.{_or_}
+use Rattle.rules.specs.Refusals.{refuse, _then_}
 use Rattle.rules.specs.Lists.{sum, products, anyPair}
 use Rattle.rules.specs.Chain.{badWeight, shared, opening}
 

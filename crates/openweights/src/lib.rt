@@ -1,6 +1,6 @@
 // Document 01, "Chain record", open: the opening weights u and v, and what is refused of them, 21 and 22.
-use openinput::SHARE_SCALE;
-use passes::MOST_WEIGHT;
+use limits::MOST_WEIGHT;
+use limits::SHARE_SCALE;
 use passes::capped_sum;
 use refusals::Refusal;
 use refusals::Verdict;

@@ -10,7 +10,8 @@ use lib.Dec.{ltb, eqb}
 use native.Mathlib.Omega.{arith}
 use borrow.Author.Tests.{ltb-false}
 use Rattle.rules.specs.Limits.{mostStream}
-use Rattle.rules.specs.Stream.{Reading, frontRefusal, commandOf, readingBy, reading, restOf}
+use Rattle.rules.specs.Refusals.{judged}
+use Rattle.rules.specs.Stream.{readingRefusal, commandOf, reading, restOf}
 use Rattle.rules.specs.Job.{Job, emptyJob, printed, output}
 use Rattle.jobstate.specs.State.{jobOf}
 use Rattle.decimal.specs.Put.{laidAt}
@@ -56,7 +57,7 @@ within-limit : (n : ℕ) (s : List ℕ) (job : Job) → turnOf n s job .more ≡
 unfolding turnOf reading
 within-limit n s job e = go (ltb mostStream (length s)) refl e
   where
-    go : (long : Bool) → ltb mostStream (length s) ≡ long → turnBy (cond long (Reading.refused 15) (cond (eqb (length s) 0) Reading.ended (readingBy (frontRefusal s) (commandOf (getD s 0 0) s)))) (n - length s) job .more ≡ true → length s ≤ mostStream
+    go : (long : Bool) → ltb mostStream (length s) ≡ long → turnBy (cond long (Reading.refused 15) (cond (eqb (length s) 0) Reading.ended (judged (readingRefusal s) (commandOf (getD s 0 0) s)))) (n - length s) job .more ≡ true → length s ≤ mostStream
     go true q o = let no : _≡_ {A = ℕ} 0 1 = cc in absurd (omega arith)
     go false q o = ltb-false _ _ q
 

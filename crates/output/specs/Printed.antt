@@ -5,7 +5,7 @@ use mathlib.Core.Bool.{cond}
 use mathlib.Core.List.{List}
 use lib.ListN.{length}
 use lib.Dec.{ltb}
-use Rattle.rules.specs.Tests.{refuse}
+use Rattle.rules.specs.Refusals.{refuse, _then_}
 use Rattle.rules.specs.Job.{output}
 use Rattle.refusals.specs.Number.{numberOf}
 use Rattle.decimal.specs.Put.{laidAt}

@@ -7,11 +7,11 @@ use Rattle.refusals.specs.Number.{numberOf}
 use Rattle.refusals.specs.declared.Refusal.{Refusal}
 use Rattle.refusals.proofs.Numbers.{not-none}
 use Rattle.rules.specs.Limits.{mostWeight}
-use Rattle.rules.specs.Tests.{refuse}
+use Rattle.rules.specs.Refusals.{refuse, _then_}
 use Rattle.rules.specs.Lists.{sum, anyPair}
 use Rattle.rules.specs.Chain.{badWeight}
 use Rattle.passes.specs.WeightRefusal.{weightRefusal}
-use Rattle.rules.proofs.Tests.{refuse-none, refuse-keeps}
+use Rattle.rules.proofs.Refusals.{refuse-none, then-stops}
 
 -- 21 or 22 stands, whatever is asked later
 pub weight-stops : (marks weights : List ℕ) (later : ℕ) (why : Refusal) → numberOf why ≡ weightRefusal marks weights 0 → weightRefusal marks weights later ≡ numberOf why

@@ -1,5 +1,6 @@
 // Document 01, "Chain record" and its refusals: one pass each over the weights and relatives of all units. Open, quarter and close
 // are made of these and of the tests of one unit (crate `weights`).
+use limits::MOST_WEIGHT;
 use refusals::Refusal;
 use refusals::Verdict;
 use weights::bad_relative;
@@ -12,8 +13,6 @@ ghost use Rattle.rules.specs.Limits.{mostWeight};
 ghost use Rattle.rules.specs.Lists.{sum, products, scaled, anyPair};
 ghost use Rattle.rules.specs.Chain.{badRelative, badWeight};
 ghost use Rattle.passes.specs.WeightRefusal.{weightRefusal};
-
-pub const MOST_WEIGHT: u64 = 100_000_000_000_000;
 
 // The sum of the weights, cut off above the limit so that no list makes it wrap.
 pub fn capped_sum(weights: &[u64]) -> u64

@@ -9,9 +9,8 @@ use lib.ListN.{length, getD}
 use Rattle.rules.specs.Limits.{steps}
 use Rattle.rules.specs.Lists.{rising}
 use Rattle.rules.specs.Selection.{every}
-use Rattle.rules.specs.TakeAll.{Frame, frame, takeAllGroup}
-use Rattle.rules.specs.TakeAll.{Group as RulesGroup}
-use Rattle.rules.specs.Rotation.{member, required, startAt, leaves, leastStep, leavers, refused, rotated, rotationAnswer, rotationLeavers}
+use Rattle.rules.specs.TakeAll.{Frame, frame, takeAllGroup, Group as RulesGroup}
+use Rattle.rules.specs.Rotation.{member, required, startAt, leaves, leastStep, leavers, rotationAnswer, rotationLeavers}
 use Rattle.refusals.specs.declared.Refusal.the-variants.{NoStep}
 use Rattle.frame.proofs.Refusals.{passed}
 use Rattle.frame.proofs.Accepted.{Accepted, accepted}

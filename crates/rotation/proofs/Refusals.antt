@@ -7,9 +7,9 @@ use lib.Seq.{take-append-seam, drop-append-seam}
 use lib.Dec.{leb}
 use borrow.Author.Tests.{le-leb, lt-leb}
 use Rattle.rules.specs.Limits.{steps}
-use Rattle.rules.specs.Tests.{refuse}
+use Rattle.rules.specs.Refusals.{refuse, _then_}
 use Rattle.rules.specs.TakeAll.{Frame, Group, takeAllGroup}
-use Rattle.rules.specs.Rotation.{startAt, leastStep, leavers, rotationRefusal, refused, rotated, rotationAnswer, rotationLeavers, times, Holds}
+use Rattle.rules.specs.Rotation.{startAt, leastStep, leavers, rotationRefusal, rotationAnswer, rotationLeavers, times, Holds}
 use Rattle.refusals.specs.declared.Refusal.{Refusal}
 use Rattle.refusals.specs.Number.{numberOf}
 use Rattle.refusals.proofs.Numbers.{number-some}

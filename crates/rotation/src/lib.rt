@@ -1,8 +1,8 @@
 // Rotation (document 01, "Rotation"): the smallest step of the start at which enough members leave the panel, and who leaves. The
 // take-all group, the units' gaps and the members do not depend on the start and are found once; what a step does is crate `leavers`.
-use frame::MOST_FRAME;
-use leavers::STEPS;
-use oldpanel::FRACTION_SCALE;
+use limits::FRACTION_SCALE;
+use limits::MOST_FRAME;
+use limits::STEPS;
 use refusals::Refusal;
 use refusals::Verdict;
 use terms::gaps;

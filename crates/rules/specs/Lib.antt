@@ -1,5 +1,6 @@
 pub mod Limits
 pub mod Tests
+pub mod Refusals
 pub mod Lists
 pub mod Selection
 pub mod TakeAll
@@ -9,5 +10,6 @@ pub mod Chain
 pub mod Direct
 pub mod Total
 pub mod Stream
+pub mod Decimal
 pub mod Lines
 pub mod Job

@@ -3,7 +3,7 @@ use Prim.Native.Nat.{ℕ, _-_}
 use mathlib.Core.Path.{_≡_, sym, ap, ap₂, _∙_}
 use mathlib.Core.List.{List}
 use lib.ListN.{length}
-use Rattle.rules.specs.Stream.{Reading, reading}
+use Rattle.rules.specs.Stream.{reading}
 use Rattle.rules.specs.Job.{Job}
 use Rattle.jobstate.specs.State.{jobOf}
 use Rattle.texts.specs.Text.{onto}

@@ -10,9 +10,9 @@ use lib.Dec.{ltb}
 use native.Mathlib.Omega.{arith}
 use borrow.Author.Tests.{lt-ltb, le-ltb, ltb-true, ltb-false}
 use Rattle.rules.specs.Limits.{mostStream}
+use Rattle.rules.specs.Stream.{reading, restOf}
 use Rattle.rules.specs.Lines.{refusalLine}
-use Rattle.rules.specs.Stream.{Reading, reading, restOf}
-use Rattle.rules.specs.Job.{Job, Saying, emptyJob, step, textOf, goesOn, printedBy, printed, output}
+use Rattle.rules.specs.Job.{Job, Saying, emptyJob, step, textOf, printedBy, printed, output}
 use Rattle.stream.proofs.Unread.{rest-shorter as shorter}
 use Rattle.jobstate.specs.State.{jobOf}
 use Rattle.run.specs.declared.Turned.{Turned}

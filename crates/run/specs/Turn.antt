@@ -5,7 +5,7 @@ use mathlib.Core.Bool.{Bool, false}
 use mathlib.Core.Path.{_≡_}
 use mathlib.Core.List.{List, []}
 use lib.ListN.{length}
-use Rattle.rules.specs.Stream.{Reading, reading}
+use Rattle.rules.specs.Stream.{reading}
 use Rattle.rules.specs.Lines.{refusalLine}
 use Rattle.rules.specs.Job.{Job, Step, step, textOf}
 use Rattle.jobstate.specs.State.{jobOf}

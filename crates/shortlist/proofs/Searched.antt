@@ -7,11 +7,11 @@ use native.Mathlib.Omega.{arith}
 use native.Mathlib.Nat.{mul-le-mul-right, div-mul-le-self}
 use lib.ListN.{length, getD, take, length-take}
 use lib.Seq.{getD-take}
+use Rattle.rules.specs.Tests.{_and_}
+use Rattle.rules.specs.Selection.{count, listed}
 use Rattle.rules.specs.TakeAll.{turnover}
 use Rattle.rules.specs.Draw.{shifted}
-use Rattle.rules.specs.Selection.{count, listed}
 use Rattle.selection.proofs.Sums.{listed-length}
-use Rattle.rules.specs.Tests.{_and_}
 use Rattle.selection.proofs.Listed.{listed-low, listed-again, listed-same}
 use Rattle.keys.specs.Units.{denOf, Units}
 use Rattle.keys.proofs.Keys.{shifted-low, denominator-positive}

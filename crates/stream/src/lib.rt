@@ -1,17 +1,15 @@
 // Document 01, "Job stream": the command at the front of a part of the stream, and the part after it; refusals 15, 16 and 17.
 // Places (18) are judged by the job, which knows the panel.
+use bigendian::two_bytes;
 ghost use mathlib.Core.Path.{_≡_};
 ghost use Prim.Native.Nat.{_≤_};
 ghost use lib.ListN.{length};
 ghost use Rattle.rules.specs.Stream.{widthOf, commandOf, reading, restOf};
 ghost use Rattle.stream.specs.Value.{commandFrom, readingFrom, takenOf};
-use bigendian::two_bytes;
 use bigendian::two_words;
 use bigendian::word;
+use limits::MOST_STREAM;
 use refusals::Refusal;
-
-// Bytes of the longest stream.
-pub const MOST_STREAM: usize = 32768;
 
 pub enum Command {
     Unit {

@@ -5,7 +5,7 @@ use mathlib.Core.List.{List, _++_}
 use Prim.Native.Nat.{ℕ}
 use lib.ListN.{length, drop}
 use Rattle.rules.specs.Selection.{listed, every}
-use Rattle.rules.specs.TakeAll.{taken, largest, takeAllSize, takeAllGroup, takeAllRefusal, takeAllMarks}
+use Rattle.rules.specs.TakeAll.{largest, takeAllSize, takeAllGroup, takeAllRefusal, takeAllMarks}
 use Rattle.selection.proofs.Sums.{listed-length, count-every}
 
 pub taken-by : {q n x q′ n′ x′ : ℕ} → q ≡ q′ → n ≡ n′ → x ≡ x′ → taken q n x ≡ taken q′ n′ x′

@@ -6,11 +6,12 @@ use Prim.Native.Nat.{ℕ, _≤_}
 use lib.ListN.{length}
 use lib.Dec.{ltb}
 use borrow.Author.Tests.{ltb-false}
-use Rattle.rules.specs.TakeAll.{refused, taken, written, badCount, badTurnovers, badSize, takeAllSize, takeAllGroup, takeAllRefusal, takeAllAnswer, takeAllMarks}
+use Rattle.rules.specs.Refusals.{written}
+use Rattle.rules.specs.TakeAll.{badCount, badTurnovers, badSize, takeAllSize, takeAllGroup, takeAllRefusal, takeAllAnswer, takeAllMarks}
 use Rattle.refusals.specs.Number.{numberOf}
 use Rattle.refusals.specs.declared.Refusal.{Refusal}
 use Rattle.refusals.proofs.Numbers.{number-some}
-use Rattle.rules.proofs.Tests.{refuse-none}
+use Rattle.rules.proofs.Refusals.{refuse-none}
 use Rattle.frame.proofs.Accepted.{units}
 use Rattle.largest.specs.Sized.{Sized}
 

@@ -1,8 +1,8 @@
 // Document 01, "Job stream": the text of what a command says, and whether the stream goes on after it.
-use frame::MOST_PANEL;
 use jobstate::Saying;
 use jobstate::Stepped;
 use jobstate::within;
+use limits::MOST_PANEL;
 use lines::PANEL_ROOM;
 ghost use mathlib.Core.Path.{_≡_};
 ghost use lib.ListN.{length};

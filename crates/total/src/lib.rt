@@ -1,6 +1,8 @@
 // Document 01, "Total" and refusal 14; 001, formula 11: the index over sectors.
+use limits::MOST_SECTORS;
+use limits::SECTOR_SCALE;
+use limits::bad_index;
 use refusals::Refusal;
-use weights::index::bad_index;
 ghost use mathlib.Core.Path.{_≡_};
 ghost use mathlib.Core.Bool.{not};
 ghost use Prim.Native.Nat.{_<_, _≤_, _^_};
@@ -12,11 +14,6 @@ ghost use Rattle.rules.specs.Lists.{sum, products, anyOf};
 ghost use Rattle.rules.specs.Chain.{badIndex};
 ghost use Rattle.rules.specs.Total.{badSectors, totalAnswer};
 ghost use Rattle.total.specs.Answer.{totalFrom};
-
-pub const MOST_SECTORS: usize = 64;
-
-// Sector shares are in millionths.
-pub const SECTOR_SCALE: u64 = 1_000_000;
 
 pub enum TotalAnswer {
     Total(u64),

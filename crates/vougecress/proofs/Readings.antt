@@ -3,7 +3,7 @@ use mathlib.Core.Path.{_≡_, refl, sym, ap, _∙_}
 use mathlib.Core.List.{List}
 use Prim.Native.Nat.{ℕ}
 use lib.ListN.{getD, drop}
-use Rattle.rules.specs.Stream.{Command, Reading, widthOf, reading, restOf}
+use Rattle.rules.specs.Stream.{Command, widthOf, reading, restOf}
 use Rattle.stream.specs.Value.{takenBy, takenOf}
 use Rattle.stream.proofs.Unread.{rest-is}
 use Rattle.boundary.specs.declared.reads.Read.{Read}

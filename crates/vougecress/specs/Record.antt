@@ -4,12 +4,13 @@ use mathlib.Core.Bool.{cond}
 use mathlib.Core.List.{List, _++_}
 use lib.ListN.{length, drop}
 use lib.Dec.{ltb}
-use Rattle.rules.specs.Chain.{Call, Answer, openRefusal, openRecord, answerOf, after}
+use Rattle.rules.specs.Refusals.{Judged}
+use Rattle.rules.specs.Chain.{Call, openRefusal, openRecord, callAnswer, after}
 use Rattle.boundary.specs.Record.{recordPlaces, recordIn, recordList, laidBy}
 
 -- a list that is too short is no record: 19, before all else
-unfoldable pub listAnswer : List ℕ → Call → Answer
-listAnswer xs call = cond (ltb (length xs) recordPlaces) (Answer.refused 19) (answerOf (recordIn xs) call)
+unfoldable pub listAnswer : List ℕ → Call → Judged
+listAnswer xs call = cond (ltb (length xs) recordPlaces) (Judged.refused 19) (callAnswer (recordIn xs) call)
 
 -- the list after a call; places beyond the record stay
 unfoldable pub listAfter : List ℕ → Call → List ℕ

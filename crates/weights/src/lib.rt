@@ -1,25 +1,10 @@
 // Document 01, "Chain record" and its refusals: tests of one unit, of which the passes over all units are made (crate `passes`).
 // A mark is 0 for an absent unit: its share at the open, its weight later.
-pub mod index;
-
+use limits::LEAST_WEIGHT;
 use relative::Checked;
 use relative::Relative;
 ghost use mathlib.Core.Path.{_≡_};
 ghost use Rattle.rules.specs.Chain.{badUnits, badRelative, badWeight};
-
-pub const MOST_PANEL: usize = 100;
-
-pub const LEAST_WEIGHT: u64 = 1_000_000;
-
-// 9: a number of units that is 0 or over a panel.
-pub fn bad_units(n: usize) -> bool
-    ensures { λ r. ⌜ r ≡ badUnits n ⌝ }
-{
-    if n == 0 {
-        return true;
-    }
-    MOST_PANEL < n
-}
 
 // 21: a present unit's weight below the least.
 pub fn bad_weight(mark: u64, weight: u64) -> bool

@@ -36,5 +36,4 @@ returns-2 c = rw (c .before .before .answer2 .given .1, c .number .ensures)
 
 pub figure-of-spec : {M : Type 1} → statement M
 figure-of-spec =
-    tie.close
-    (tie.spec enum-known-answer enum-known-answer-2 number-requires cast-t6 returns returns-2)
+    tie.close (tie.spec enum-known-answer enum-known-answer-2 number-requires cast-t6 returns returns-2)

@@ -6,15 +6,6 @@ use borrow.Author.Needs.{needs}
 use Rattle.bounds.proofs.is_apart.Statement.{statement}
 use Rattle.bounds.proofs.is_apart.Tie as tie
 
-unit-key-requires : tie.Need-unit-key-requires
-unit-key-requires c κs = search needs
-
-unit-key-requires-2 : tie.Need-unit-key-requires-2
-unit-key-requires-2 c κs = search needs
-
-is-below-requires : tie.Need-is-below-requires
-is-below-requires c κs = search needs
-
 returns : tie.Need-returns
 returns c =
     λ h.
@@ -22,9 +13,6 @@ returns c =
       before = λ l. key-less _ _ _ _ _ _ _ _ (c .before .before .before .unit-key2 .ensures) (c .before .before .before .before .unit-key .ensures) ∙ sym (c .is-below .ensures) ∙ not-true _ h;
       behind = λ l. absurd (omega (arith, l, c .before .if1 .taken));
     }
-
-is-below-requires-2 : tie.Need-is-below-requires-2
-is-below-requires-2 c κs = search needs
 
 returns-2 : tie.Need-returns-2
 returns-2 c =
@@ -36,11 +24,4 @@ returns-2 c =
 
 pub is-apart-spec : {M : Type 1} → statement M
 is-apart-spec =
-    tie.close
-    (tie.spec
-    unit-key-requires
-    unit-key-requires-2
-    is-below-requires
-    returns
-    is-below-requires-2
-    returns-2)
+    tie.close (tie.spec (λ c κs. search needs) (λ c κs. search needs) (λ c κs. search needs) returns (λ c κs. search needs) returns-2)

@@ -39,50 +39,11 @@ Inv-loop turnovers randoms gaps start units parts b z many₀ j₀ many j = (j �
 abbrev μ-loop : tie.MeasureT-loop
 μ-loop turnovers randoms gaps start units parts b z many₀ j₀ many j = length units - j
 
-returns : tie.Need-returns Inv-loop μ-loop
-returns c = λ h. absurd (not-both false h refl)
-
-returns-2 : tie.Need-returns-2 Inv-loop μ-loop
-returns-2 c = λ h. absurd (not-both false h refl)
-
 loop-holds : tie.Need-loop-holds Inv-loop μ-loop
 loop-holds c = (omega arith, omega arith, sym (count-zero _), none _ _ _ _ _ _ _)
 
-mul-i : tie.Need-mul-i Inv-loop μ-loop
-mul-i c = search needs
-
-shared-slice-read-i : tie.Need-shared-slice-read-i Inv-loop μ-loop
-shared-slice-read-i c = search needs
-
-mul-if3 : tie.Need-mul-if3 Inv-loop μ-loop
-mul-if3 c = search needs
-
-shared-slice-read-if3 : tie.Need-shared-slice-read-if3 Inv-loop μ-loop
-shared-slice-read-if3 c = search needs
-
 is-apart-requires : tie.Need-is-apart-requires Inv-loop μ-loop
 is-apart-requires c κs = let s = c .before .before .before .before .before .before .before .before .before .before .before .before .before .before .before in (s .pre .0, s .pre .1 .low (c .before .before .before .before .before .loop .j) (c .before .before .before .before .loop-test .taken), omega (arith, c .before .before .before .before .before .before .if2 .left))
-
-returns-3 : tie.Need-returns-3 Inv-loop μ-loop
-returns-3 c = λ h. absurd (not-both false h refl)
-
-mul-is-passed : tie.Need-mul-is-passed Inv-loop μ-loop
-mul-is-passed c = search needs
-
-shared-slice-read-is-passed : tie.Need-shared-slice-read-is-passed Inv-loop μ-loop
-shared-slice-read-is-passed c = search needs
-
-is-passed-requires : tie.Need-is-passed-requires Inv-loop μ-loop
-is-passed-requires c κs = search needs
-
-add-many : tie.Need-add-many Inv-loop μ-loop
-add-many c = search needs
-
-add-j : tie.Need-add-j Inv-loop μ-loop
-add-j c = search needs
-
-loop-less : tie.Need-loop-less Inv-loop μ-loop
-loop-less c = search needs
 
 loop-again : tie.Need-loop-again Inv-loop μ-loop
 loop-again c =
@@ -116,23 +77,6 @@ returns-4 c =
 pub is-checked-spec : {M : Type 1} → statement M
 is-checked-spec =
     tie.close
-    (tie.spec
-    Inv-loop
-    μ-loop
-    returns
-    returns-2
-    loop-holds
-    mul-i
-    shared-slice-read-i
-    mul-if3
-    shared-slice-read-if3
-    is-apart-requires
-    returns-3
-    mul-is-passed
-    shared-slice-read-is-passed
-    is-passed-requires
-    add-many
-    add-j
-    loop-less
-    loop-again
-    returns-4)
+    (tie.spec Inv-loop μ-loop (λ c. λ h. absurd (not-both false h refl)) (λ c. λ h. absurd (not-both false h refl)) loop-holds (λ c. search needs)
+    (λ c. search needs) (λ c. search needs) (λ c. search needs) is-apart-requires (λ c. λ h. absurd (not-both false h refl)) (λ c. search needs)
+    (λ c. search needs) (λ c κs. search needs) (λ c. search needs) (λ c. search needs) (λ c. search needs) loop-again returns-4)

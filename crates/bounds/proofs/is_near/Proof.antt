@@ -18,8 +18,5 @@ returns c = let a = c .before .before .args in zero-near (a .key .num) (a .reach
 mul-result : tie.Need-mul-result
 mul-result c = omega (arith, c .before .before .before .pre (omega arith))
 
-returns-2 : tie.Need-returns-2
-returns-2 c = search needs
-
 pub is-near-spec : {M : Type 1} → statement M
-is-near-spec = tie.close (tie.spec returns mul-result returns-2)
+is-near-spec = tie.close (tie.spec returns mul-result (λ c. search needs))

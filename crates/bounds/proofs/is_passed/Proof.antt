@@ -25,14 +25,5 @@ alike : (b : Bound) (part i : ℕ) → part ≡ b .part → passes b part i ≡ 
 unfolding passes _or_ _and_
 alike b part i e = rw (le-ltb part (b .part) (omega (arith, e)), eq-eqb part (b .part) e)
 
-returns : tie.Need-returns
-returns c = sym (less _ _ _ (search needs))
-
-returns-2 : tie.Need-returns-2
-returns-2 c = sym (more _ _ _ (search needs))
-
-returns-3 : tie.Need-returns-3
-returns-3 c = sym (alike _ _ _ (omega arith))
-
 pub is-passed-spec : {M : Type 1} → statement M
-is-passed-spec = tie.close (tie.spec returns returns-2 returns-3)
+is-passed-spec = tie.close (tie.spec (λ c. sym (less _ _ _ (search needs))) (λ c. sym (more _ _ _ (search needs))) (λ c. sym (alike _ _ _ (omega arith))))

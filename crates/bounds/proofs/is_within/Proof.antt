@@ -10,9 +10,6 @@ use borrow.Author.Needs.{needs}
 use Rattle.bounds.proofs.is_within.Statement.{statement}
 use Rattle.bounds.proofs.is_within.Tie as tie
 
-unit-key-requires : tie.Need-unit-key-requires
-unit-key-requires c κs = search needs
-
 is-near-requires : tie.Need-is-near-requires
 is-near-requires c κs = reach-low _ _ _ _ _ _ _ (c .before .before .before .before .pre .0 .2) (c .before .before .before .before .pre .0 .1) (c .unit-key .ensures)
 
@@ -29,12 +26,6 @@ mul-is-passed c =
     let a = s .args in
     omega (arith, ap (λ (n : ℕ). n * a .b .scale) (c .before .before .before .before .unit-key .ensures .num-is), s .pre .1 (near-is _ _ _ _ _ _ _ (c .before .before .before .before .unit-key .ensures) ∙ sym (c .before .before .before .is-near .ensures) ∙ not-false _ (c .before .before .if1 .left)))
 
-div-is-passed : tie.Need-div-is-passed
-div-is-passed c = search needs
-
-is-passed-requires : tie.Need-is-passed-requires
-is-passed-requires c κs = search needs
-
 returns-2 : tie.Need-returns-2
 unfolding within
 returns-2 c =
@@ -44,12 +35,4 @@ returns-2 c =
 
 pub is-within-spec : {M : Type 1} → statement M
 is-within-spec =
-    tie.close
-    (tie.spec
-    unit-key-requires
-    is-near-requires
-    returns
-    mul-is-passed
-    div-is-passed
-    is-passed-requires
-    returns-2)
+    tie.close (tie.spec (λ c κs. search needs) is-near-requires returns mul-is-passed (λ c. search needs) (λ c κs. search needs) returns-2)

@@ -19,9 +19,6 @@ put-decimal-requires c κs = omega (arith, line-length (c .before .before .befor
 put-byte-requires-3 : tie.Need-put-byte-requires-3
 put-byte-requires-3 c κs = omega (arith, line-length (c .before .before .before .before .before .before .before .before .before .before .before .before .before .before .args .letter) (c .before .before .before .before .before .before .before .before .before .before .before .before .before .before .args .a))
 
-same-length : tie.Need-same-length
-same-length c = search needs
-
 returns : tie.Need-returns
 returns c =
     let a = c .before .before .before .before .before .before .before .before .before .before .before .before .before .before .before .before .before .args in
@@ -32,11 +29,4 @@ returns c =
 
 pub put-line-spec : {M : Type 1} → statement M
 put-line-spec =
-    tie.close
-    (tie.spec
-    put-byte-requires
-    put-byte-requires-2
-    put-decimal-requires
-    put-byte-requires-3
-    same-length
-    returns)
+    tie.close (tie.spec put-byte-requires put-byte-requires-2 put-decimal-requires put-byte-requires-3 (λ c. search needs) returns)

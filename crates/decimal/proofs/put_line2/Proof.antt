@@ -25,9 +25,6 @@ put-decimal-requires-2 c κs = omega (arith, line2-length (c .before .before .be
 put-byte-requires-4 : tie.Need-put-byte-requires-4
 put-byte-requires-4 c κs = omega (arith, line2-length (c .before .before .before .before .before .before .before .before .before .before .before .before .before .before .before .before .before .before .before .before .before .before .args .letter) (c .before .before .before .before .before .before .before .before .before .before .before .before .before .before .before .before .before .before .before .before .before .before .args .a) (c .before .before .before .before .before .before .before .before .before .before .before .before .before .before .before .before .before .before .before .before .before .before .args .b))
 
-same-length : tie.Need-same-length
-same-length c = search needs
-
 returns : tie.Need-returns
 returns c =
     let a = c .before .before .before .before .before .before .before .before .before .before .before .before .before .before .before .before .before .before .before .before .before .before .before .before .before .args in
@@ -41,12 +38,5 @@ returns c =
 pub put-line2-spec : {M : Type 1} → statement M
 put-line2-spec =
     tie.close
-    (tie.spec
-    put-byte-requires
-    put-byte-requires-2
-    put-decimal-requires
-    put-byte-requires-3
-    put-decimal-requires-2
-    put-byte-requires-4
-    same-length
-    returns)
+    (tie.spec put-byte-requires put-byte-requires-2 put-decimal-requires put-byte-requires-3 put-decimal-requires-2 put-byte-requires-4
+    (λ c. search needs) returns)

@@ -3,7 +3,7 @@ use mathlib.Core.Path.{_≡_, sym, ap, _∙_}
 use borrow.Author.Needs.{needs}
 use Prim.Native.Nat.{ℕ}
 use Rattle.rules.specs.TakeAll.{frame}
-use Rattle.rules.specs.Draw.{drawn, drawRefusal}
+use Rattle.rules.specs.Draw.{drawRefusal}
 use Rattle.refusals.specs.Number.{numberOf, verdictOf}
 use Rattle.draw.proofs.Refusals.{answer-refused, numbers-refused, weights-refused, answer-accepted}
 use Rattle.draw.proofs.draw.Statement.{statement}
@@ -12,23 +12,8 @@ use Rattle.draw.proofs.draw.Tie as tie
 drawn-with : {n x n′ x′ : ℕ} → n ≡ n′ → x ≡ x′ → drawn n x ≡ drawn n′ x′
 drawn-with a b = cc
 
-judge-requires : tie.Need-judge-requires
-judge-requires c κs = search needs
-
-enum-known-verdict : tie.Need-enum-known-verdict
-enum-known-verdict c = search needs
-
-enum-told : tie.Need-enum-told
-enum-told c = search needs
-
 draw-panel-requires : tie.Need-draw-panel-requires
 draw-panel-requires c κs = sym (c .before .before .before .before .judge .ensures) ∙ ap verdictOf (c .before .before .enum-told .given .1)
-
-same-length : tie.Need-same-length
-same-length c = search needs
-
-same-length-2 : tie.Need-same-length-2
-same-length-2 c = search needs
 
 returns : tie.Need-returns
 returns c =
@@ -39,12 +24,6 @@ returns c =
       sym (answer-refused f (a .z) (a .start) (a .panel .now) (a .weights .now) why e),
       (sym (numbers-refused f (a .z) (a .start) (a .panel .now) (a .weights .now) why e), sym (weights-refused f (a .z) (a .start) (a .panel .now) (a .weights .now) why e)),
     )
-
-same-length-3 : tie.Need-same-length-3
-same-length-3 c = search needs
-
-same-length-4 : tie.Need-same-length-4
-same-length-4 c = search needs
 
 returns-2 : tie.Need-returns-2
 returns-2 c =
@@ -57,14 +36,5 @@ returns-2 c =
 pub draw-spec : {M : Type 1} → statement M
 draw-spec =
     tie.close
-    (tie.spec
-    judge-requires
-    enum-known-verdict
-    enum-told
-    draw-panel-requires
-    same-length
-    same-length-2
-    returns
-    same-length-3
-    same-length-4
-    returns-2)
+    (tie.spec (λ c κs. search needs) (λ c. search needs) (λ c. search needs) draw-panel-requires (λ c. search needs) (λ c. search needs) returns
+    (λ c. search needs) (λ c. search needs) returns-2)

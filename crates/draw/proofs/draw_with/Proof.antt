@@ -62,15 +62,6 @@ write-found-requires c κs =
       (ok s .numbersLength, omega (arith, size, fits .0), omega (arith, size, fits .1)),
     )
 
-same-length : tie.Need-same-length
-same-length c = search needs
-
-same-length-2 : tie.Need-same-length-2
-same-length-2 c = search needs
-
-same-length-3 : tie.Need-same-length-3
-same-length-3 c = search needs
-
 returns : tie.Need-returns
 returns c =
     let s = c .before .before .before .before .before .before .before .before .before .before .before .before .before .before .before .before .before .before .before .before .before .before in
@@ -104,15 +95,6 @@ write-ordered-requires c κs =
       (ok s .numbersLength, omega (arith, size, fits .0), omega (arith, size, fits .1)),
     )
 
-same-length-4 : tie.Need-same-length-4
-same-length-4 c = search needs
-
-same-length-5 : tie.Need-same-length-5
-same-length-5 c = search needs
-
-same-length-6 : tie.Need-same-length-6
-same-length-6 c = search needs
-
 returns-2 : tie.Need-returns-2
 returns-2 c =
     let s = c .before .before .before .before .before .before .before .before .before .before .before .before .before .before .before .before .before .before .before .before .before .before .before in
@@ -129,18 +111,5 @@ returns-2 c =
 pub draw-with-spec : {M : Type 1} → statement M
 draw-with-spec =
     tie.close
-    (tie.spec
-    find-group-requires
-    fill-requires
-    reach-of-requires
-    find-requires
-    write-found-requires
-    same-length
-    same-length-2
-    same-length-3
-    returns
-    write-ordered-requires
-    same-length-4
-    same-length-5
-    same-length-6
-    returns-2)
+    (tie.spec find-group-requires fill-requires reach-of-requires find-requires write-found-requires (λ c. search needs) (λ c. search needs)
+    (λ c. search needs) returns write-ordered-requires (λ c. search needs) (λ c. search needs) (λ c. search needs) returns-2)

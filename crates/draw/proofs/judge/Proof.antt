@@ -7,15 +7,6 @@ use Rattle.draw.proofs.Refusals.{frame-first, short-panel, short-weight
 use Rattle.draw.proofs.judge.Statement.{statement}
 use Rattle.draw.proofs.judge.Tie as tie
 
-judge-requires : tie.Need-judge-requires
-judge-requires c κs = search needs
-
-enum-known-verdict : tie.Need-enum-known-verdict
-enum-known-verdict c = search needs
-
-enum-told : tie.Need-enum-told
-enum-told c = search needs
-
 returns : tie.Need-returns
 returns c = sym (short-panel _ _ _ _ _ (sym (c .before .before .before .judge .ensures) ∙ ap verdictOf (c .before .enum-told .given .1)) (lt-ltb _ _ (c .if1 .taken)))
 
@@ -30,5 +21,4 @@ returns-4 c = sym (none-short _ _ _ _ _ (sym (c .before .before .before .before 
 
 pub judge-spec : {M : Type 1} → statement M
 judge-spec =
-    tie.close
-    (tie.spec judge-requires enum-known-verdict enum-told returns returns-2 returns-3 returns-4)
+    tie.close (tie.spec (λ c κs. search needs) (λ c. search needs) (λ c. search needs) returns returns-2 returns-3 returns-4)

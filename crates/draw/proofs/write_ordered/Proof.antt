@@ -41,25 +41,11 @@ slice-aggregate-write-panel-2 c = sym (c .before .before .sampled-units .ensures
 write-panel-requires : tie.Need-write-panel-requires
 write-panel-requires c κs = ((c .before .before .before .before .before .before .before .before .before .before .before .before .before .pre .0 .0, arrays (c .before .before .before .before)), c .before .before .before .before .before .before .before .before .before .before .before .before .before .pre .1)
 
-same-length : tie.Need-same-length
-same-length c = search needs
-
-same-length-2 : tie.Need-same-length-2
-same-length-2 c = search needs
-
 returns : tie.Need-returns
 returns c = (c .before .before .before .before .write-panel .ensures .0, (c .before .before .before .before .write-panel .ensures .1, drawn-count _ _ _ _ _ _ (c .before .before .before .before .before .before .before .before .before .before .before .before .before .before .before .before .before .before .pre .0 .0) (arrays (c .before .before .before .before .before .before .before .before .before))))
 
 pub write-ordered-spec : {M : Type 1} → statement M
 write-ordered-spec =
     tie.close
-    (tie.spec
-    add-largest-units
-    largest-units-requires
-    sampled-units-requires
-    slice-aggregate-write-panel
-    slice-aggregate-write-panel-2
-    write-panel-requires
-    same-length
-    same-length-2
-    returns)
+    (tie.spec add-largest-units largest-units-requires sampled-units-requires slice-aggregate-write-panel slice-aggregate-write-panel-2
+    write-panel-requires (λ c. search needs) (λ c. search needs) returns)

@@ -8,7 +8,6 @@ use lib.Seq.{length-take-le}
 use Rattle.rules.specs.Limits.{highestRelative, linkScale, relativeScale}
 use Rattle.rules.specs.Lists.{products}
 use Rattle.rules.specs.Chain.{link, figureAt}
-use Rattle.passes.proofs.Lists.{products-bound}
 use Rattle.passes.specs.declared.Sums.{Sums}
 use Rattle.figures.proofs.Reckoning.{mean-most}
 use borrow.Author.Needs.{needs}
@@ -50,12 +49,6 @@ mul-result c =
     let l : c .link .result ≤ highestRelative * linkScale = omega (arith, c .link .ensures, mean-most _ _ highestRelative linkScale k) in
     omega (arith, mul-le-mul (s .pre .1 .inRange) l)
 
-mul-result-2 : tie.Need-mul-result-2
-mul-result-2 c = search needs
-
-div-result : tie.Need-div-result
-div-result c = search needs
-
 returns : tie.Need-returns
 unfolding figureAt link
 returns c =
@@ -68,11 +61,4 @@ returns c =
 pub figure-spec : {M : Type 1} → statement M
 figure-spec =
     tie.close
-    (tie.spec
-    slice-aggregate-weighted-sums
-    weighted-sums-requires
-    link-requires
-    mul-result
-    mul-result-2
-    div-result
-    returns)
+    (tie.spec slice-aggregate-weighted-sums weighted-sums-requires link-requires mul-result (λ c. search needs) (λ c. search needs) returns)

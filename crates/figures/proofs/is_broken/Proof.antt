@@ -14,9 +14,6 @@ use borrow.Author.Needs.{needs}
 use Rattle.figures.proofs.is_broken.Statement.{statement}
 use Rattle.figures.proofs.is_broken.Tie as tie
 
-bad-units-requires : tie.Need-bad-units-requires
-bad-units-requires c κs = search needs
-
 returns : tie.Need-returns
 unfolding broken _or_
 returns c = simp (sym (c .before .bad-units .ensures) ∙ c .if1 .taken)
@@ -24,9 +21,6 @@ returns c = simp (sym (c .before .bad-units .ensures) ∙ c .if1 .taken)
 returns-2 : tie.Need-returns-2
 unfolding broken _or_
 returns-2 c = simp (sym (c .before .before .bad-units .ensures) ∙ c .before .if1 .left, lt-ltb _ _ (c .if2 .taken))
-
-bad-index-requires : tie.Need-bad-index-requires
-bad-index-requires c κs = search needs
 
 returns-3 : tie.Need-returns-3
 unfolding broken _or_
@@ -39,9 +33,6 @@ slice-aggregate-held c =
     let h : s .args .units ≤ length (s .args .places .now) = omega (arith, s .pre, m) in
     sym (length-take-le (s .args .units) (s .args .places .now) h)
 
-any-low-requires : tie.Need-any-low-requires
-any-low-requires c κs = search needs
-
 returns-4 : tie.Need-returns-4
 unfolding broken _or_ held
 returns-4 c =
@@ -51,9 +42,6 @@ returns-4 c =
       sym (c .before .before .before .before .bad-index .ensures) ∙ c .before .before .before .if3 .left,
       sym (c .before .any-low .ensures) ∙ c .if4 .taken,
     )
-
-capped-sum-requires : tie.Need-capped-sum-requires
-capped-sum-requires c κs = search needs
 
 returns-5 : tie.Need-returns-5
 unfolding broken _or_ held
@@ -83,15 +71,5 @@ returns-6 c =
 pub is-broken-spec : {M : Type 1} → statement M
 is-broken-spec =
     tie.close
-    (tie.spec
-    bad-units-requires
-    returns
-    returns-2
-    bad-index-requires
-    returns-3
-    slice-aggregate-held
-    any-low-requires
-    returns-4
-    capped-sum-requires
-    returns-5
-    returns-6)
+    (tie.spec (λ c κs. search needs) returns returns-2 (λ c κs. search needs) returns-3 slice-aggregate-held (λ c κs. search needs) returns-4
+    (λ c κs. search needs) returns-5 returns-6)

@@ -5,22 +5,19 @@ use Prim.Native.Nat.{_≤_}
 use lib.ListN.{length}
 use lib.Seq.{length-take-le}
 use borrow.Author.Tests.{eq-eqb, ne-eqb}
-use Rattle.rules.specs.Tests.{refuse}
-use Rattle.rules.specs.Chain.{held, callRefusal}
+use Rattle.rules.specs.Refusals.{refuse, _then_}
+use Rattle.rules.specs.Chain.{held, callInputRefusal}
 use Rattle.figures.proofs.Sound.{sound-facts}
 use borrow.Author.Needs.{needs}
 use Rattle.figures.proofs.judge_call.Statement.{statement}
 use Rattle.figures.proofs.judge_call.Tie as tie
 
-is-broken-requires : tie.Need-is-broken-requires
-is-broken-requires c κs = search needs
-
 returns : tie.Need-returns
-unfolding callRefusal refuse
+unfolding callInputRefusal refuse
 returns c = simp (sym (c .before .is-broken .ensures) ∙ c .if1 .taken)
 
 returns-2 : tie.Need-returns-2
-unfolding callRefusal refuse
+unfolding callInputRefusal refuse
 returns-2 c = simp (sym (c .before .before .is-broken .ensures) ∙ c .before .if1 .left, ne-eqb _ _ (c .if2 .taken))
 
 slice-aggregate-any-bad-relative : tie.Need-slice-aggregate-any-bad-relative
@@ -38,7 +35,7 @@ any-bad-relative-requires c κs =
     length-take-le (s .args .units) (s .args .places .now) h ∙ sym (c .before .if2 .left)
 
 returns-3 : tie.Need-returns-3
-unfolding callRefusal refuse held
+unfolding callInputRefusal refuse held
 returns-3 c =
     simp (
       sym (c .before .before .before .before .before .is-broken .ensures) ∙ c .before .before .before .before .if1 .left,
@@ -47,7 +44,7 @@ returns-3 c =
     )
 
 returns-4 : tie.Need-returns-4
-unfolding callRefusal refuse held
+unfolding callInputRefusal refuse held
 returns-4 c =
     simp (
       sym (c .before .before .before .before .before .is-broken .ensures) ∙ c .before .before .before .before .if1 .left,
@@ -58,11 +55,4 @@ returns-4 c =
 pub judge-call-spec : {M : Type 1} → statement M
 judge-call-spec =
     tie.close
-    (tie.spec
-    is-broken-requires
-    returns
-    returns-2
-    slice-aggregate-any-bad-relative
-    any-bad-relative-requires
-    returns-3
-    returns-4)
+    (tie.spec (λ c κs. search needs) returns returns-2 slice-aggregate-any-bad-relative any-bad-relative-requires returns-3 returns-4)

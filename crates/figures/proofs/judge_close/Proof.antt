@@ -25,15 +25,6 @@ judge-weights-requires c κs =
     length-take-le (s .args .units) (s .args .places .now) (s .pre .0)
     ∙ sym (length-take-le (s .args .units) (s .args .next .now) (s .pre .1))
 
-enum-known-moved : tie.Need-enum-known-moved
-enum-known-moved c = search needs
-
-enum-told : tie.Need-enum-told
-enum-told c = search needs
-
-judge-last-requires : tie.Need-judge-last-requires
-judge-last-requires c κs = search needs
-
 returns : tie.Need-returns
 returns c =
     let a = c .before .before .before .before .before .before .before .before .args in
@@ -53,12 +44,5 @@ returns-2 c =
 pub judge-close-spec : {M : Type 1} → statement M
 judge-close-spec =
     tie.close
-    (tie.spec
-    slice-aggregate-judge-weights
-    slice-aggregate-judge-weights-2
-    judge-weights-requires
-    enum-known-moved
-    enum-told
-    judge-last-requires
-    returns
-    returns-2)
+    (tie.spec slice-aggregate-judge-weights slice-aggregate-judge-weights-2 judge-weights-requires (λ c. search needs) (λ c. search needs)
+    (λ c κs. search needs) returns returns-2)

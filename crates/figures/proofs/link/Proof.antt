@@ -8,23 +8,11 @@ use borrow.Author.Needs.{needs}
 use Rattle.figures.proofs.link.Statement.{statement}
 use Rattle.figures.proofs.link.Tie as tie
 
-div-whole : tie.Need-div-whole
-div-whole c = search needs
-
-rem-rest : tie.Need-rem-rest
-rem-rest c = search needs
-
 mul-result : tie.Need-mul-result
 mul-result c =
     let a = c .args in
     let h : a .n ≤ a .v * highestRelative = omega (arith, mul-comm (a .v) highestRelative) in
     omega (arith, div-le-of-le-mul (a .v) h)
-
-mul-result-2 : tie.Need-mul-result-2
-mul-result-2 c = omega (arith, mod-lt (c .args .n) (c .pre .0))
-
-div-result : tie.Need-div-result
-div-result c = search needs
 
 add-result : tie.Need-add-result
 add-result c =
@@ -36,4 +24,5 @@ returns c = two-steps (c .args .n) (c .args .v) linkScale (c .pre .0)
 
 pub link-spec : {M : Type 1} → statement M
 link-spec =
-    tie.close (tie.spec div-whole rem-rest mul-result mul-result-2 div-result add-result returns)
+    tie.close (tie.spec (λ c. search needs) (λ c. search needs) mul-result (λ c. omega (arith, mod-lt (c .args .n) (c .pre .0))) (λ c. search needs) add-result
+    returns)

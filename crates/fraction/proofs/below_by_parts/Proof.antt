@@ -42,9 +42,6 @@ mul-rest-b c = omega (arith, whole-fits _ _ _ (c .before .before .before .before
 sub-rest-b : tie.Need-sub-rest-b
 sub-rest-b c = whole-fits _ _ _ (c .before .before .before .before .before .before .pre .3)
 
-above-requires : tie.Need-above-requires
-above-requires c κs = search needs
-
 returns-3 : tie.Need-returns-3
 returns-3 c =
     let start = c .before .before .before .before .before .before .before in
@@ -52,5 +49,4 @@ returns-3 c =
 
 pub below-by-parts-spec : {M : Type 1} → statement M
 below-by-parts-spec =
-    tie.close
-    (tie.spec returns returns-2 mul-rest-a sub-rest-a mul-rest-b sub-rest-b above-requires returns-3)
+    tie.close (tie.spec returns returns-2 mul-rest-a sub-rest-a mul-rest-b sub-rest-b (λ c κs. search needs) returns-3)

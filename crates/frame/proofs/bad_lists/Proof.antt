@@ -16,9 +16,6 @@ returns-2 : tie.Need-returns-2
 unfolding badLists
 returns-2 c = sym (or-on _ _ (or-second _ _ (ap not (ne-eqb _ _ (c .if2 .taken)))))
 
-bad-count-requires : tie.Need-bad-count-requires
-bad-count-requires c κs = search needs
-
 returns-3 : tie.Need-returns-3
 unfolding badLists
 returns-3 c =
@@ -26,4 +23,4 @@ returns-3 c =
     ∙ sym (or-off _ _ (or-off _ _ (ap not (eq-eqb _ _ (c .before .before .if1 .left))) ∙ ap not (eq-eqb _ _ (c .before .if2 .left))))
 
 pub bad-lists-spec : {M : Type 1} → statement M
-bad-lists-spec = tie.close (tie.spec returns returns-2 bad-count-requires returns-3)
+bad-lists-spec = tie.close (tie.spec returns returns-2 (λ c κs. search needs) returns-3)

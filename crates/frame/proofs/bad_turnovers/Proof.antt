@@ -10,10 +10,10 @@ use lib.ListN.{length, drop}
 use borrow.Author.Needs.{needs}
 use borrow.Author.Tests.{eq-eqb, ne-eqb, lt-ltb, le-ltb}
 use Rattle.rules.proofs.Tests.{or-on, or-second, or-off}
+use Rattle.rules.proofs.Lists.{sum-step, sum-end}
 use Rattle.rules.specs.Limits.{mostTurnover}
 use Rattle.rules.specs.Lists.{sum, anyOf}
 use Rattle.rules.specs.TakeAll.{badTurnovers}
-use Rattle.frame.proofs.Lists.{any-here, any-next, any-end, sum-next, sum-end}
 use Rattle.frame.proofs.bad_turnovers.Statement.{statement}
 use Rattle.frame.proofs.bad_turnovers.Tie as tie
 
@@ -41,45 +41,24 @@ Inv-loop turnovers total₀ i₀ total i =
 abbrev μ-loop : tie.MeasureT-loop
 μ-loop turnovers total₀ i₀ total i = length turnovers - i
 
-loop-holds : tie.Need-loop-holds Inv-loop μ-loop
-loop-holds c = (omega arith, omega arith, omega arith, refl)
-
-mul-turnover : tie.Need-mul-turnover Inv-loop μ-loop
-mul-turnover c = search needs
-
-shared-slice-read-turnover : tie.Need-shared-slice-read-turnover Inv-loop μ-loop
-shared-slice-read-turnover c = omega arith
-
 returns : tie.Need-returns Inv-loop μ-loop
 returns c =
     let turnovers = c .before .before .before .before .args .turnovers .now in
     let i = c .before .before .before .loop .i in
     sym (zero-bad turnovers (sym (c .before .before .before .loop .inv .3) ∙ any-here isZero turnovers i (search needs) (eq-eqb _ _ (c .if1 .taken))))
 
-sub-if2 : tie.Need-sub-if2 Inv-loop μ-loop
-sub-if2 c = omega arith
-
 returns-2 : tie.Need-returns-2 Inv-loop μ-loop
 returns-2 c =
     let turnovers = c .before .before .before .before .before .args .turnovers .now in
     let i = c .before .before .before .before .loop .i in
-    let next = sum-next turnovers i (search needs) in
+    let next = sum-step turnovers i (search needs) in
     sym (over-bad _ (omega arith))
-
-add-total : tie.Need-add-total Inv-loop μ-loop
-add-total c = omega arith
-
-add-i : tie.Need-add-i Inv-loop μ-loop
-add-i c = omega arith
-
-loop-less : tie.Need-loop-less Inv-loop μ-loop
-loop-less c = omega arith
 
 loop-again : tie.Need-loop-again Inv-loop μ-loop
 loop-again c =
     let turnovers = c .before .before .before .before .before .args .turnovers .now in
     let i = c .before .before .before .before .loop .i in
-    let next = sum-next turnovers i (search needs) in (
+    let next = sum-step turnovers i (search needs) in (
       omega arith,
       omega arith,
       omega arith,
@@ -96,17 +75,5 @@ returns-3 c =
 pub bad-turnovers-spec : {M : Type 1} → statement M
 bad-turnovers-spec =
     tie.close
-    (tie.spec
-    Inv-loop
-    μ-loop
-    loop-holds
-    mul-turnover
-    shared-slice-read-turnover
-    returns
-    sub-if2
-    returns-2
-    add-total
-    add-i
-    loop-less
-    loop-again
-    returns-3)
+    (tie.spec Inv-loop μ-loop (λ c. (omega arith, omega arith, omega arith, refl)) (λ c. search needs) (λ c. omega arith) returns (λ c. omega arith)
+    returns-2 (λ c. omega arith) (λ c. omega arith) (λ c. omega arith) loop-again returns-3)

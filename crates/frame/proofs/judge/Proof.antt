@@ -7,17 +7,11 @@ use Rattle.frame.proofs.Refusals.{lists-refused, numbers-refused, turno
 use Rattle.frame.proofs.judge.Statement.{statement}
 use Rattle.frame.proofs.judge.Tie as tie
 
-bad-lists-requires : tie.Need-bad-lists-requires
-bad-lists-requires c κs = search needs
-
 returns : tie.Need-returns
 returns c =
     sym
     (lists-refused _ _ _ _
     (sym (c .before .bad-lists .ensures) ∙ c .if1 .taken))
-
-rising-requires : tie.Need-rising-requires
-rising-requires c κs = search needs
 
 returns-2 : tie.Need-returns-2
 returns-2 c =
@@ -26,9 +20,6 @@ returns-2 c =
     (sym (c .before .before .before .bad-lists .ensures) ∙ c .before .before .if1 .left)
     (sym (c .before .rising .ensures) ∙ not-true _ (c .if2 .taken)))
 
-bad-turnovers-requires : tie.Need-bad-turnovers-requires
-bad-turnovers-requires c κs = search needs
-
 returns-3 : tie.Need-returns-3
 returns-3 c =
     sym
@@ -36,9 +27,6 @@ returns-3 c =
     (sym (c .before .before .before .before .before .bad-lists .ensures) ∙ c .before .before .before .before .if1 .left)
     (sym (c .before .before .before .rising .ensures) ∙ not-false _ (c .before .before .if2 .left))
     (sym (c .before .bad-turnovers .ensures) ∙ c .if3 .taken))
-
-bad-randoms-requires : tie.Need-bad-randoms-requires
-bad-randoms-requires c κs = search needs
 
 returns-4 : tie.Need-returns-4
 returns-4 c =
@@ -59,9 +47,6 @@ returns-5 c =
     (sym (c .before .before .before .before .bad-turnovers .ensures) ∙ c .before .before .before .if3 .left)
     (sym (c .before .before .bad-randoms .ensures) ∙ c .before .if4 .left)
     (le-leb _ _ (c .if5 .taken)))
-
-bad-size-requires : tie.Need-bad-size-requires
-bad-size-requires c κs = search needs
 
 returns-6 : tie.Need-returns-6
 unfolding badRandom
@@ -90,16 +75,5 @@ returns-7 c =
 pub judge-spec : {M : Type 1} → statement M
 judge-spec =
     tie.close
-    (tie.spec
-    bad-lists-requires
-    returns
-    rising-requires
-    returns-2
-    bad-turnovers-requires
-    returns-3
-    bad-randoms-requires
-    returns-4
-    returns-5
-    bad-size-requires
-    returns-6
-    returns-7)
+    (tie.spec (λ c κs. search needs) returns (λ c κs. search needs) returns-2 (λ c κs. search needs) returns-3 (λ c κs. search needs) returns-4
+    returns-5 (λ c κs. search needs) returns-6 returns-7)

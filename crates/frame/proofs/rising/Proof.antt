@@ -5,7 +5,7 @@ use native.Mathlib.Omega.{arith}
 use lib.ListN.{length, getD, drop}
 use borrow.Author.Needs.{needs}
 use Rattle.rules.specs.Lists.{rising, risesFrom}
-use Rattle.frame.proofs.Lists.{rises-start, rises-next, rises-stop, rises-end}
+use Rattle.rules.proofs.Lists.{rises-start, rises-next, rises-stop, rises-end}
 use Rattle.frame.proofs.rising.Statement.{statement}
 use Rattle.frame.proofs.rising.Tie as tie
 
@@ -18,32 +18,11 @@ abbrev μ-loop : tie.MeasureT-loop
 loop-holds : tie.Need-loop-holds Inv-loop μ-loop
 loop-holds c = (omega arith, rises-start (c .args .numbers .now))
 
-mul-if1 : tie.Need-mul-if1 Inv-loop μ-loop
-mul-if1 c = search needs
-
-shared-slice-read-if1 : tie.Need-shared-slice-read-if1 Inv-loop μ-loop
-shared-slice-read-if1 c = omega arith
-
-sub-if1 : tie.Need-sub-if1 Inv-loop μ-loop
-sub-if1 c = omega arith
-
-mul-if1-2 : tie.Need-mul-if1-2 Inv-loop μ-loop
-mul-if1-2 c = search needs
-
-shared-slice-read-if1-2 : tie.Need-shared-slice-read-if1-2 Inv-loop μ-loop
-shared-slice-read-if1-2 c = omega arith
-
 returns : tie.Need-returns Inv-loop μ-loop
 returns c =
     let numbers = c .before .before .before .before .before .args .numbers .now in
     let i = c .before .before .before .before .loop .i in
     sym (rises-stop (getD numbers (i - 1) 0) numbers i (search needs) (c .if1 .taken)) ∙ c .before .before .before .before .loop .inv .1
-
-add-i : tie.Need-add-i Inv-loop μ-loop
-add-i c = omega arith
-
-loop-less : tie.Need-loop-less Inv-loop μ-loop
-loop-less c = omega arith
 
 loop-again : tie.Need-loop-again Inv-loop μ-loop
 loop-again c =
@@ -65,17 +44,5 @@ returns-2 c =
 pub rising-spec : {M : Type 1} → statement M
 rising-spec =
     tie.close
-    (tie.spec
-    Inv-loop
-    μ-loop
-    loop-holds
-    mul-if1
-    shared-slice-read-if1
-    sub-if1
-    mul-if1-2
-    shared-slice-read-if1-2
-    returns
-    add-i
-    loop-less
-    loop-again
-    returns-2)
+    (tie.spec Inv-loop μ-loop loop-holds (λ c. search needs) (λ c. omega arith) (λ c. omega arith) (λ c. search needs) (λ c. omega arith) returns
+    (λ c. omega arith) (λ c. omega arith) loop-again returns-2)

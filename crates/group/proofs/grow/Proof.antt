@@ -82,30 +82,12 @@ shared-slice-read-unit c = omega (arith, c .before .before .before .pre .1 .0, c
 mul-turnover : tie.Need-mul-turnover Inv-loop μ-loop
 mul-turnover c = omega (arith, low (c .before), c .before .before .before .good)
 
-shared-slice-read-turnover : tie.Need-shared-slice-read-turnover Inv-loop μ-loop
-shared-slice-read-turnover c = low (c .before .before)
-
-sub-n : tie.Need-sub-n Inv-loop μ-loop
-sub-n c = search needs
-
-mul-if1 : tie.Need-mul-if1 Inv-loop μ-loop
-mul-if1 c = omega (arith, product (c .before .before))
-
 returns : tie.Need-returns Inv-loop μ-loop
 returns c =
     let i = c .before .before .before in
     let inv = at i .loop .inv in
     let e : takeAllSize (ts i) (z i) ≡ q i = inv .2 ∙ least-hit (fits (ts i) (z i)) (z i) (q i) (i .loop-test .taken) (test i ∙ lt-ltb ((z i - q i) * v i) (restWithout (ts i) (q i)) (subst (λ (k : ℕ). (z i - q i) * v i < k) (inv .1) (c .if1 .taken))) in
     is-group (ts i) (z i) _ (sym e) refl (inv .1 ∙ sym (rest-hit (ts i) (z i) (q i) e (i .loop-test .taken))) (inv .3)
-
-sub-rest : tie.Need-sub-rest Inv-loop μ-loop
-sub-rest c = omega (arith, step (c .before .before .before))
-
-add-q : tie.Need-add-q Inv-loop μ-loop
-add-q c = search needs
-
-loop-less : tie.Need-loop-less Inv-loop μ-loop
-loop-less c = search needs
 
 loop-again : tie.Need-loop-again Inv-loop μ-loop
 loop-again c =
@@ -130,19 +112,6 @@ returns-2 c =
 pub grow-spec : {M : Type 1} → statement M
 grow-spec =
     tie.close
-    (tie.spec
-    Inv-loop
-    μ-loop
-    loop-holds
-    mul-unit
-    shared-slice-read-unit
-    mul-turnover
-    shared-slice-read-turnover
-    sub-n
-    mul-if1
-    returns
-    sub-rest
-    add-q
-    loop-less
-    loop-again
-    returns-2)
+    (tie.spec Inv-loop μ-loop loop-holds mul-unit shared-slice-read-unit mul-turnover (λ c. low (c .before .before)) (λ c. search needs)
+    (λ c. omega (arith, product (c .before .before))) returns (λ c. omega (arith, step (c .before .before .before))) (λ c. search needs)
+    (λ c. search needs) loop-again returns-2)

@@ -6,7 +6,7 @@ use lib.ListN.{length, take}
 use Rattle.rules.specs.Limits.{mostHeld, mostPanel}
 use Rattle.rules.specs.TakeAll.{Frame, frame}
 use Rattle.rules.specs.Draw.{drawAnswer, drawNumbers, drawWeights}
-use Rattle.rules.specs.Job.{drawnJob}
+use Rattle.rules.specs.Job.{withPanel}
 use Rattle.draw.specs.Answer.{answerOf}
 use Rattle.jobstate.specs.State.{jobOf}
 use Rattle.jobstate.proofs.FirstPlaces.{lent-within, lent-length, lent}
@@ -26,15 +26,6 @@ same-frame s n e =
     let h = places s in
     cc (lent (j .numbers) n (j .units) mostHeld (h .0) e, lent (j .turnovers) n (j .units) mostHeld (h .1) e, lent (j .randoms) n (j .units) mostHeld (h .2) e)
 
-within-requires : tie.Need-within-requires
-within-requires c κs = search needs
-
-places-requires : tie.Need-places-requires
-places-requires c κs = search needs
-
-no-weights-requires : tie.Need-no-weights-requires
-no-weights-requires c κs = search needs
-
 array-share-prefix-numbers : tie.Need-array-share-prefix-numbers
 array-share-prefix-numbers c = lent-within (c .before .before .before .before .before .before .args .job .numbers) _ _ mostHeld (places (c .before .before .before .before .before .before) .0) (c .before .before .before .before .before .within .ensures)
 
@@ -52,27 +43,6 @@ array-share-prefix-randoms c = lent-within (c .before .before .before .before .b
 
 slice-aggregate-draw-3 : tie.Need-slice-aggregate-draw-3
 slice-aggregate-draw-3 c = lent-length _ _ _ mostHeld (places (c .before .before .before .before .before .before .before .before .before) .2) (c .before .before .before .before .before .before .before .before .within .ensures)
-
-slice-aggregate-draw-4 : tie.Need-slice-aggregate-draw-4
-slice-aggregate-draw-4 c = search needs
-
-slice-aggregate-draw-5 : tie.Need-slice-aggregate-draw-5
-slice-aggregate-draw-5 c = search needs
-
-draw-requires : tie.Need-draw-requires
-draw-requires c κs = search needs
-
-enum-known-answer : tie.Need-enum-known-answer
-enum-known-answer c = search needs
-
-said-requires : tie.Need-said-requires
-said-requires c κs = search needs
-
-enum-told : tie.Need-enum-told
-enum-told c = search needs
-
-drawn-requires : tie.Need-drawn-requires
-drawn-requires c κs = search needs
 
 returns : tie.Need-returns
 returns c =
@@ -92,27 +62,11 @@ returns-2 c =
     let a = sym (ap answerOf (c .before .enum-told .given .1)) ∙ c .before .before .before .before .before .draw .ensures .0 ∙ ap (λ (x : Frame). drawAnswer x (s .args .size) (s .args .start) (c .before .before .before .before .before .before .before .before .before .before .before .before .places .result) (c .before .before .before .before .before .before .before .before .before .before .before .no-weights .result)) f in
     draw-accepted (s .args .job) (s .args .size) (s .args .start) _ _ hn hw (c .drawn .result) _ _ _ a (c .drawn .ensures .0)
     (c .before .before .before .before .before .draw .ensures .1 .0 ∙ ap (λ (x : Frame). drawNumbers x (s .args .size) (s .args .start) (c .before .before .before .before .before .before .before .before .before .before .before .before .places .result) (c .before .before .before .before .before .before .before .before .before .before .before .no-weights .result)) f)
-    (c .drawn .ensures .1 ∙ ap (λ (l : List ℕ). drawnJob (jobOf (s .args .job)) (min (s .args .size) mostPanel) (take (s .args .size) l)) (c .before .before .before .before .before .draw .ensures .1 .1 ∙ ap (λ (x : Frame). drawWeights x (s .args .size) (s .args .start) (c .before .before .before .before .before .before .before .before .before .before .before .before .places .result) (c .before .before .before .before .before .before .before .before .before .before .before .no-weights .result)) f))
+    (c .drawn .ensures .1 ∙ ap (λ (l : List ℕ). withPanel (jobOf (s .args .job)) (min (s .args .size) mostPanel) (take (s .args .size) l)) (c .before .before .before .before .before .draw .ensures .1 .1 ∙ ap (λ (x : Frame). drawWeights x (s .args .size) (s .args .start) (c .before .before .before .before .before .before .before .before .before .before .before .before .places .result) (c .before .before .before .before .before .before .before .before .before .before .before .no-weights .result)) f))
 
 pub on-draw-spec : {M : Type 1} → statement M
 on-draw-spec =
     tie.close
-    (tie.spec
-    within-requires
-    places-requires
-    no-weights-requires
-    array-share-prefix-numbers
-    slice-aggregate-draw
-    array-share-prefix-turnovers
-    slice-aggregate-draw-2
-    array-share-prefix-randoms
-    slice-aggregate-draw-3
-    slice-aggregate-draw-4
-    slice-aggregate-draw-5
-    draw-requires
-    enum-known-answer
-    said-requires
-    enum-told
-    drawn-requires
-    returns
-    returns-2)
+    (tie.spec (λ c κs. search needs) (λ c κs. search needs) (λ c κs. search needs) array-share-prefix-numbers slice-aggregate-draw
+    array-share-prefix-turnovers slice-aggregate-draw-2 array-share-prefix-randoms slice-aggregate-draw-3 (λ c. search needs) (λ c. search needs)
+    (λ c κs. search needs) (λ c. search needs) (λ c κs. search needs) (λ c. search needs) (λ c κs. search needs) returns returns-2)

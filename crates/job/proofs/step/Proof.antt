@@ -8,48 +8,6 @@ use borrow.Author.Needs.{needs}
 use Rattle.job.proofs.step.Statement.{statement}
 use Rattle.job.proofs.step.Tie as tie
 
-enum-known-command : tie.Need-enum-known-command
-enum-known-command c = search needs
-
-on-unit-requires : tie.Need-on-unit-requires
-on-unit-requires c κs = search needs
-
-enum-known-command-2 : tie.Need-enum-known-command-2
-enum-known-command-2 c = search needs
-
-on-draw-requires : tie.Need-on-draw-requires
-on-draw-requires c κs = search needs
-
-enum-known-command-3 : tie.Need-enum-known-command-3
-enum-known-command-3 c = search needs
-
-on-share-requires : tie.Need-on-share-requires
-on-share-requires c κs = search needs
-
-enum-known-command-4 : tie.Need-enum-known-command-4
-enum-known-command-4 c = search needs
-
-on-relative-requires : tie.Need-on-relative-requires
-on-relative-requires c κs = search needs
-
-enum-known-command-5 : tie.Need-enum-known-command-5
-enum-known-command-5 c = search needs
-
-on-open-requires : tie.Need-on-open-requires
-on-open-requires c κs = search needs
-
-enum-told : tie.Need-enum-told
-enum-told c = search needs
-
-on-quarter-requires : tie.Need-on-quarter-requires
-on-quarter-requires c κs = search needs
-
-enum-told-2 : tie.Need-enum-told-2
-enum-told-2 c = search needs
-
-on-close-requires : tie.Need-on-close-requires
-on-close-requires c κs = search needs
-
 returns : tie.Need-returns
 unfolding step
 returns c = c .on-unit .ensures ∙ ap (λ (k : Command). step (jobOf (c .before .before .before .before .args .job)) (commandFrom k)) (sym (c .before .before .command .given .1))
@@ -81,25 +39,6 @@ returns-7 c = c .on-close .ensures ∙ ap (λ (k : Command). step (jobOf (c .bef
 pub step-spec : {M : Type 1} → statement M
 step-spec =
     tie.close
-    (tie.spec
-    enum-known-command
-    on-unit-requires
-    enum-known-command-2
-    on-draw-requires
-    enum-known-command-3
-    on-share-requires
-    enum-known-command-4
-    on-relative-requires
-    enum-known-command-5
-    on-open-requires
-    enum-told
-    on-quarter-requires
-    enum-told-2
-    on-close-requires
-    returns
-    returns-2
-    returns-3
-    returns-4
-    returns-5
-    returns-6
-    returns-7)
+    (tie.spec (λ c. search needs) (λ c κs. search needs) (λ c. search needs) (λ c κs. search needs) (λ c. search needs) (λ c κs. search needs)
+    (λ c. search needs) (λ c κs. search needs) (λ c. search needs) (λ c κs. search needs) (λ c. search needs) (λ c κs. search needs)
+    (λ c. search needs) (λ c κs. search needs) returns returns-2 returns-3 returns-4 returns-5 returns-6 returns-7)

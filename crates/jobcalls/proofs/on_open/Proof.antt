@@ -25,12 +25,6 @@ same-lists s n e =
     let h = places s in
     cc (lent (j .panel) n (j .size) mostPanel (h .0) e, lent (j .shares) n (j .size) mostPanel (h .1) e, lent (j .pending) n (j .size) mostPanel (h .2) e)
 
-within-requires : tie.Need-within-requires
-within-requires c κs = search needs
-
-said-requires : tie.Need-said-requires
-said-requires c κs = search needs
-
 returns : tie.Need-returns
 returns c =
     let j = c .before .before .before .args .job in
@@ -55,24 +49,6 @@ array-share-prefix-pending c = lent-within (c .before .before .before .before .b
 slice-aggregate-open-3 : tie.Need-slice-aggregate-open-3
 slice-aggregate-open-3 c = lent-length _ _ _ mostPanel (places (c .before .before .before .before .before .before .before .before) .2) (c .before .before .before .before .before .before .before .within .ensures)
 
-open-requires : tie.Need-open-requires
-open-requires c κs = search needs
-
-enum-known-answer : tie.Need-enum-known-answer
-enum-known-answer c = search needs
-
-said-requires-2 : tie.Need-said-requires-2
-said-requires-2 c κs = search needs
-
-enum-told : tie.Need-enum-told
-enum-told c = search needs
-
-with-chain-requires : tie.Need-with-chain-requires
-with-chain-requires c κs = search needs
-
-said-requires-3 : tie.Need-said-requires-3
-said-requires-3 c κs = search needs
-
 returns-2 : tie.Need-returns-2
 returns-2 c =
     let j = c .before .before .before .before .before .before .before .before .before .before .before .before .before .args .job in
@@ -92,21 +68,6 @@ returns-3 c =
 pub on-open-spec : {M : Type 1} → statement M
 on-open-spec =
     tie.close
-    (tie.spec
-    within-requires
-    said-requires
-    returns
-    array-share-prefix-panel
-    slice-aggregate-open
-    array-share-prefix-shares
-    slice-aggregate-open-2
-    array-share-prefix-pending
-    slice-aggregate-open-3
-    open-requires
-    enum-known-answer
-    said-requires-2
-    enum-told
-    with-chain-requires
-    said-requires-3
-    returns-2
-    returns-3)
+    (tie.spec (λ c κs. search needs) (λ c κs. search needs) returns array-share-prefix-panel slice-aggregate-open array-share-prefix-shares
+    slice-aggregate-open-2 array-share-prefix-pending slice-aggregate-open-3 (λ c κs. search needs) (λ c. search needs) (λ c κs. search needs)
+    (λ c. search needs) (λ c κs. search needs) (λ c κs. search needs) returns-2 returns-3)

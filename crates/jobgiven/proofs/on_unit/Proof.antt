@@ -14,39 +14,12 @@ use borrow.Author.Needs.{needs}
 use Rattle.jobgiven.proofs.on_unit.Statement.{statement}
 use Rattle.jobgiven.proofs.on_unit.Tie as tie
 
-said-requires : tie.Need-said-requires
-said-requires c κs = search needs
-
 returns : tie.Need-returns
 returns c =
     let j = c .before .before .args .job in
     let h : length (j .numbers) ≡ mostHeld = search needs in
     let full : mostHeld ≤ length (take (j .units) (j .numbers)) = omega (arith, named (j .numbers) (j .units) mostHeld h) in
     stepped (c .said .result) j (Refused FrameFull) (c .said .ensures .0) (c .said .ensures .1) ∙ sym (unit-refused (jobOf j) _ _ _ full)
-
-mul-next : tie.Need-mul-next
-mul-next c = search needs
-
-element-write-next : tie.Need-element-write-next
-element-write-next c = search needs
-
-mul-next-2 : tie.Need-mul-next-2
-mul-next-2 c = search needs
-
-element-write-next-2 : tie.Need-element-write-next-2
-element-write-next-2 c = search needs
-
-mul-next-3 : tie.Need-mul-next-3
-mul-next-3 c = search needs
-
-element-write-next-3 : tie.Need-element-write-next-3
-element-write-next-3 c = search needs
-
-add-next : tie.Need-add-next
-add-next c = search needs
-
-said-requires-2 : tie.Need-said-requires-2
-said-requires-2 c κs = search needs
 
 returns-2 : tie.Need-returns-2
 returns-2 c =
@@ -63,15 +36,5 @@ returns-2 c =
 pub on-unit-spec : {M : Type 1} → statement M
 on-unit-spec =
     tie.close
-    (tie.spec
-    said-requires
-    returns
-    mul-next
-    element-write-next
-    mul-next-2
-    element-write-next-2
-    mul-next-3
-    element-write-next-3
-    add-next
-    said-requires-2
-    returns-2)
+    (tie.spec (λ c κs. search needs) returns (λ c. search needs) (λ c. search needs) (λ c. search needs) (λ c. search needs) (λ c. search needs)
+    (λ c. search needs) (λ c. search needs) (λ c κs. search needs) returns-2)

@@ -8,15 +8,6 @@ use borrow.Author.Needs.{needs}
 use Rattle.jobstate.proofs.drawn.Statement.{statement}
 use Rattle.jobstate.proofs.drawn.Tie as tie
 
-cast-places : tie.Need-cast-places
-cast-places c = search needs
-
-places-requires : tie.Need-places-requires
-places-requires c κs = search needs
-
-places-requires-2 : tie.Need-places-requires-2
-places-requires-2 c κs = search needs
-
 returns : tie.Need-returns
 returns c =
     let a = c .before .before .args in
@@ -25,4 +16,4 @@ returns c =
     (refl, drawn-is (jobOf (a .job)) _ _ _ _ _ shares pending refl)
 
 pub drawn-spec : {M : Type 1} → statement M
-drawn-spec = tie.close (tie.spec cast-places places-requires places-requires-2 returns)
+drawn-spec = tie.close (tie.spec (λ c. search needs) (λ c κs. search needs) (λ c κs. search needs) returns)

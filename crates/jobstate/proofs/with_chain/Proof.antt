@@ -11,9 +11,6 @@ use borrow.Author.Needs.{needs}
 use Rattle.jobstate.proofs.with_chain.Statement.{statement}
 use Rattle.jobstate.proofs.with_chain.Tie as tie
 
-places-requires : tie.Need-places-requires
-places-requires c κs = search needs
-
 returns : tie.Need-returns
 returns c =
     let a = c .before .args in
@@ -23,4 +20,4 @@ returns c =
     with-chain-is (jobOf j) (recordOf (a .chain)) _ pending
 
 pub with-chain-spec : {M : Type 1} → statement M
-with-chain-spec = tie.close (tie.spec places-requires returns)
+with-chain-spec = tie.close (tie.spec (λ c κs. search needs) returns)

@@ -13,11 +13,5 @@ mul-reached c =
       mul-le-mul {n₁ = c .args .size} {m₁ = c .args .turnover} {n₂ = mostPanel} {m₂ = mostTurnover} (c .pre .1) (c .pre .0),
     )
 
-returns : tie.Need-returns
-returns c = search needs
-
-returns-2 : tie.Need-returns-2
-returns-2 c = search needs
-
 pub gap-spec : {M : Type 1} → statement M
-gap-spec = tie.close (tie.spec mul-reached returns returns-2)
+gap-spec = tie.close (tie.spec mul-reached (λ c. search needs) (λ c. search needs))

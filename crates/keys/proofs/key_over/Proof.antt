@@ -13,15 +13,6 @@ use Rattle.keys.proofs.key_over.Tie as tie
 product-low : (m n : ℕ) → m ≤ randomRange → n ≤ mostTurnover → m * n ≤ randomRange * mostTurnover
 product-low m n = mul-le-mul
 
-cast-near : tie.Need-cast-near
-cast-near c = search needs
-
-sub-far : tie.Need-sub-far
-sub-far c = search needs
-
-cast-far : tie.Need-cast-far
-cast-far c = search needs
-
 mul-t7 : tie.Need-mul-t7
 mul-t7 c =
     let start = c .before .before in
@@ -37,4 +28,4 @@ unfolding keyDenominator
 returns c = (refl, refl)
 
 pub key-over-spec : {M : Type 1} → statement M
-key-over-spec = tie.close (tie.spec cast-near sub-far cast-far mul-t7 mul-t8 returns)
+key-over-spec = tie.close (tie.spec (λ c. search needs) (λ c. search needs) (λ c. search needs) mul-t7 mul-t8 returns)

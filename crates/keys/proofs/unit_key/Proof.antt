@@ -27,12 +27,6 @@ shared-slice-read-t10 c = omega (arith, c .before .before .before .before .pre .
 shift-requires : tie.Need-shift-requires
 shift-requires c κs = let s = c .before .before .before .before in (s .pre .0 .random-low (s .args .i) (s .pre .1), s .pre .0 .start-low)
 
-mul-key-over : tie.Need-mul-key-over
-mul-key-over c = search needs
-
-shared-slice-read-key-over : tie.Need-shared-slice-read-key-over
-shared-slice-read-key-over c = search needs
-
 mul-key-over-2 : tie.Need-mul-key-over-2
 mul-key-over-2 c = omega (arith, c .before .before .before .before .before .before .pre .0 .room, c .before .before .before .before .before .before .pre .1, c .before .before .before .before .before .before .good)
 
@@ -59,13 +53,5 @@ returns c =
 pub unit-key-spec : {M : Type 1} → statement M
 unit-key-spec =
     tie.close
-    (tie.spec
-    mul-t8
-    shared-slice-read-t10
-    shift-requires
-    mul-key-over
-    shared-slice-read-key-over
-    mul-key-over-2
-    shared-slice-read-key-over-2
-    key-over-requires
-    returns)
+    (tie.spec mul-t8 shared-slice-read-t10 shift-requires (λ c. search needs) (λ c. search needs) mul-key-over-2 shared-slice-read-key-over-2
+    key-over-requires returns)

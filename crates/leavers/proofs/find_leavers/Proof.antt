@@ -32,9 +32,6 @@ tell-requires c κs =
     let st = c .before .before .before in
     (st .pre .0 .ready (st .args .start) (st .pre .1), st .pre .0 .gaps)
 
-loop-holds : tie.Need-loop-holds Inv-loop μ-loop
-loop-holds c = (omega arith, omega arith, hold-none _ _ _ refl)
-
 mul-i : tie.Need-mul-i Inv-loop μ-loop
 mul-i c = omega (arith, c .before .before .before .before .before .before .before .pre .0 .held .most)
 
@@ -57,9 +54,6 @@ add-count c = omega (arith, c .before .before .before .before .before .before .b
 
 add-j : tie.Need-add-j Inv-loop μ-loop
 add-j c = omega (arith, c .before .before .before .before .before .before .before .before .before .pre .0 .held .most)
-
-loop-less : tie.Need-loop-less Inv-loop μ-loop
-loop-less c = search needs
 
 loop-again : tie.Need-loop-again Inv-loop μ-loop
 unfolding memberLeaves
@@ -89,18 +83,5 @@ returns c =
 pub find-leavers-spec : {M : Type 1} → statement M
 find-leavers-spec =
     tie.close
-    (tie.spec
-    Inv-loop
-    μ-loop
-    tell-requires
-    loop-holds
-    mul-i
-    array-read-i
-    is-sampled-requires
-    mul-places
-    array-write-places
-    add-count
-    add-j
-    loop-less
-    loop-again
-    returns)
+    (tie.spec Inv-loop μ-loop tell-requires (λ c. (omega arith, omega arith, hold-none _ _ _ refl)) mul-i array-read-i is-sampled-requires mul-places
+    array-write-places add-count add-j (λ c. search needs) loop-again returns)

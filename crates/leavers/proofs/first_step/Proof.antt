@@ -53,12 +53,6 @@ returns c =
     let hit : test (c .before .before .before .before .before .before .before .before .before) (c .before .before .before .before .before .loop .k) ≡ true = le-leb _ _ (subst (λ (n : ℕ). c .before .before .before .before .before .before .before .before .before .args .need ≤ n) (counted (c .before .before)) (c .if1 .taken)) in
     sym (c .before .before .before .before .before .loop .inv .1 ∙ least-hit (test (c .before .before .before .before .before .before .before .before .before)) steps (c .before .before .before .before .before .loop .k) (c .before .before .before .before .loop-test .taken) hit)
 
-add-k : tie.Need-add-k Inv-loop μ-loop
-add-k c = search needs
-
-loop-less : tie.Need-loop-less Inv-loop μ-loop
-loop-less c = search needs
-
 loop-again : tie.Need-loop-again Inv-loop μ-loop
 unfolding enoughLeave
 loop-again c =
@@ -73,14 +67,4 @@ returns-2 c =
 pub first-step-spec : {M : Type 1} → statement M
 first-step-spec =
     tie.close
-    (tie.spec
-    Inv-loop
-    μ-loop
-    loop-holds
-    start-at-requires
-    find-leavers-requires
-    returns
-    add-k
-    loop-less
-    loop-again
-    returns-2)
+    (tie.spec Inv-loop μ-loop loop-holds start-at-requires find-leavers-requires returns (λ c. search needs) (λ c. search needs) loop-again returns-2)

@@ -43,9 +43,6 @@ slice-write-out c = omega (arith, c .before .before .before .before .pre .1)
 add-j : tie.Need-add-j Inv-loop μ-loop
 add-j c = omega (arith, c .before .before .before .before .pre .0 .most)
 
-loop-less : tie.Need-loop-less Inv-loop μ-loop
-loop-less c = search needs
-
 loop-again : tie.Need-loop-again Inv-loop μ-loop
 loop-again c =
     let st = c .before .before .before .before in
@@ -57,9 +54,6 @@ loop-again c =
       list-store every f (st .args .out .now) (c .before .before .loop .out) j j refl (inv .1) (sym (count-every j)) room,
       length-set (c .before .before .loop .out) j (f j) ∙ inv .2,
     )
-
-same-length : tie.Need-same-length Inv-loop μ-loop
-same-length c = c .before .loop .inv .2
 
 returns : tie.Need-returns Inv-loop μ-loop
 unfolding inPlaceOrder
@@ -73,18 +67,5 @@ returns c =
 pub write-numbers-spec : {M : Type 1} → statement M
 write-numbers-spec =
     tie.close
-    (tie.spec
-    Inv-loop
-    μ-loop
-    loop-holds
-    mul-i
-    array-read-i
-    mul-out
-    shared-slice-read-out
-    mul-out-2
-    slice-write-out
-    add-j
-    loop-less
-    loop-again
-    same-length
-    returns)
+    (tie.spec Inv-loop μ-loop loop-holds mul-i array-read-i mul-out shared-slice-read-out mul-out-2 slice-write-out add-j (λ c. search needs)
+    loop-again (λ c. c .before .loop .inv .2) returns)

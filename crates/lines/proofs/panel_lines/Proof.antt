@@ -15,12 +15,6 @@ returns c =
     let short : length (a .out .now) < lineRoom * length (a .numbers .now) = omega arith in
     no-room (lineRoom * length (a .numbers .now)) (panelLines (a .numbers .now) (a .weights .now)) (a .out .now) short
 
-put-panel-requires : tie.Need-put-panel-requires
-put-panel-requires c κs = omega arith
-
-same-length : tie.Need-same-length
-same-length c = search needs
-
 returns-2 : tie.Need-returns-2
 returns-2 c =
     let a = c .before .before .before .before .before .before .before .before .args in
@@ -28,4 +22,4 @@ returns-2 c =
     at-front (lineRoom * length (a .numbers .now)) (panelLines (a .numbers .now) (a .weights .now)) (a .out .now) room (c .before .before .put-panel .ensures)
 
 pub panel-lines-spec : {M : Type 1} → statement M
-panel-lines-spec = tie.close (tie.spec returns put-panel-requires same-length returns-2)
+panel-lines-spec = tie.close (tie.spec returns (λ c κs. omega arith) (λ c. search needs) returns-2)

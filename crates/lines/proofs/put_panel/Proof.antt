@@ -20,40 +20,16 @@ Inv-loop out₀ numbers weights n at₀ i₀ out at i = (i ≤ n) × (at ≤ lin
 abbrev μ-loop : tie.MeasureT-loop
 μ-loop out₀ numbers weights n at₀ i₀ out at i = n - i
 
-shorter-requires : tie.Need-shorter-requires Inv-loop μ-loop
-shorter-requires c κs = search needs
-
 loop-holds : tie.Need-loop-holds Inv-loop μ-loop
 loop-holds c =
     let a = c .before .before .before .before .args in
     (search needs, search needs, refl, says (sym (no-units (a .numbers .now) (a .weights .now))) (nothing (a .out .now)))
-
-mul-wide : tie.Need-mul-wide Inv-loop μ-loop
-mul-wide c = search needs
-
-shared-slice-read-wide : tie.Need-shared-slice-read-wide Inv-loop μ-loop
-shared-slice-read-wide c = search needs
-
-wide-requires : tie.Need-wide-requires Inv-loop μ-loop
-wide-requires c κs = search needs
-
-mul-weight : tie.Need-mul-weight Inv-loop μ-loop
-mul-weight c = search needs
-
-shared-slice-read-weight : tie.Need-shared-slice-read-weight Inv-loop μ-loop
-shared-slice-read-weight c = search needs
 
 put-line2-requires : tie.Need-put-line2-requires Inv-loop μ-loop
 put-line2-requires c κs =
     let l = c .before .before .before .before .before .loop in
     let room : l .at + lineRoom ≤ length (l .out) = omega arith in
     line2-fits _ _ _ _ _ room
-
-add-i : tie.Need-add-i Inv-loop μ-loop
-add-i c = search needs
-
-loop-less : tie.Need-loop-less Inv-loop μ-loop
-loop-less c = search needs
 
 loop-again : tie.Need-loop-again Inv-loop μ-loop
 loop-again c =
@@ -66,9 +42,6 @@ loop-again c =
     let more = number ∙ one-unit (l .i) ns ws (search needs) (search needs) in
     (search needs, omega arith, search needs, says more (_then_ (l .inv .3) (c .before .before .put-line2 .ensures) (omega arith)))
 
-same-length : tie.Need-same-length Inv-loop μ-loop
-same-length c = search needs
-
 returns : tie.Need-returns Inv-loop μ-loop
 returns c =
     let a = c .before .before .before .before .before .before .args in
@@ -78,19 +51,5 @@ returns c =
 pub put-panel-spec : {M : Type 1} → statement M
 put-panel-spec =
     tie.close
-    (tie.spec
-    Inv-loop
-    μ-loop
-    shorter-requires
-    loop-holds
-    mul-wide
-    shared-slice-read-wide
-    wide-requires
-    mul-weight
-    shared-slice-read-weight
-    put-line2-requires
-    add-i
-    loop-less
-    loop-again
-    same-length
-    returns)
+    (tie.spec Inv-loop μ-loop (λ c κs. search needs) loop-holds (λ c. search needs) (λ c. search needs) (λ c κs. search needs) (λ c. search needs)
+    (λ c. search needs) put-line2-requires (λ c. search needs) (λ c. search needs) loop-again (λ c. search needs) returns)

@@ -9,14 +9,8 @@ use Rattle.lines.proofs.refusal_line.Tie as tie
 returns : tie.Need-returns
 returns c = no-room lineRoom (refusalLine (c .before .before .args .number) (c .before .before .args .offset)) (c .before .before .args .out .now) (c .if1 .taken)
 
-put-line2-requires : tie.Need-put-line2-requires
-put-line2-requires c κs = line2-fits _ _ _ _ _ (c .before .if1 .left)
-
-same-length : tie.Need-same-length
-same-length c = search needs
-
 returns-2 : tie.Need-returns-2
 returns-2 c = at-front lineRoom (refusalLine (c .before .before .before .before .before .before .args .number) (c .before .before .before .before .before .before .args .offset)) (c .before .before .before .before .before .before .args .out .now) (c .before .before .before .before .if1 .left) (c .before .before .put-line2 .ensures)
 
 pub refusal-line-spec : {M : Type 1} → statement M
-refusal-line-spec = tie.close (tie.spec returns put-line2-requires same-length returns-2)
+refusal-line-spec = tie.close (tie.spec returns (λ c κs. line2-fits _ _ _ _ _ (c .before .if1 .left)) (λ c. search needs) returns-2)

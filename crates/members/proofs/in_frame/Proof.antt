@@ -24,53 +24,11 @@ returns c = (
   omega (arith, c .before .before .loop .inv .fewer, c .before .before .loop .inv .in-panel),
 )
 
-mul-number : tie.Need-mul-number Inv-loop μ-loop
-mul-number c = search needs
-
-shared-slice-read-number : tie.Need-shared-slice-read-number Inv-loop μ-loop
-shared-slice-read-number c = search needs
-
-mul-old : tie.Need-mul-old Inv-loop μ-loop
-mul-old c = search needs
-
-shared-slice-read-old : tie.Need-shared-slice-read-old Inv-loop μ-loop
-shared-slice-read-old c = search needs
-
-add-i : tie.Need-add-i Inv-loop μ-loop
-add-i c = search needs
-
-loop-less : tie.Need-loop-less Inv-loop μ-loop
-loop-less c = search needs
-
 loop-again : tie.Need-loop-again Inv-loop μ-loop
 loop-again c = merge-unit (c .before .before .before .before .before .before .args .numbers .now) (c .before .before .before .before .before .before .args .panel .now) (c .before .before .before .before .before .loop .i) (c .before .before .before .before .before .loop .j) (c .before .before .before .before .loop-test .taken) (c .before .before .before .if1 .left) (c .before .before .before .before .before .before .pre .1) (c .if2 .taken) _ (c .before .before .before .before .before .loop .inv)
 
-add-j : tie.Need-add-j Inv-loop μ-loop
-add-j c = search needs
-
-loop-less-2 : tie.Need-loop-less-2 Inv-loop μ-loop
-loop-less-2 c = search needs
-
 loop-again-2 : tie.Need-loop-again-2 Inv-loop μ-loop
 loop-again-2 c = merge-old (c .before .before .before .before .before .before .before .args .numbers .now) (c .before .before .before .before .before .before .before .args .panel .now) (c .before .before .before .before .before .before .loop .i) (c .before .before .before .before .before .before .loop .j) (c .before .before .before .before .before .loop-test .taken) (c .before .before .before .before .if1 .left) (c .before .before .before .before .before .before .before .pre .0) (c .if3 .taken) _ (c .before .before .before .before .before .before .loop .inv)
-
-mul-places : tie.Need-mul-places Inv-loop μ-loop
-mul-places c = search needs
-
-array-write-places : tie.Need-array-write-places Inv-loop μ-loop
-array-write-places c = search needs
-
-add-count : tie.Need-add-count Inv-loop μ-loop
-add-count c = search needs
-
-add-i-2 : tie.Need-add-i-2 Inv-loop μ-loop
-add-i-2 c = search needs
-
-add-j-2 : tie.Need-add-j-2 Inv-loop μ-loop
-add-j-2 c = search needs
-
-loop-less-3 : tie.Need-loop-less-3 Inv-loop μ-loop
-loop-less-3 c = search needs
 
 loop-again-3 : tie.Need-loop-again-3 Inv-loop μ-loop
 loop-again-3 c =
@@ -91,26 +49,6 @@ returns-2 c = (
 pub in-frame-spec : {M : Type 1} → statement M
 in-frame-spec =
     tie.close
-    (tie.spec
-    Inv-loop
-    μ-loop
-    loop-holds
-    returns
-    mul-number
-    shared-slice-read-number
-    mul-old
-    shared-slice-read-old
-    add-i
-    loop-less
-    loop-again
-    add-j
-    loop-less-2
-    loop-again-2
-    mul-places
-    array-write-places
-    add-count
-    add-i-2
-    add-j-2
-    loop-less-3
-    loop-again-3
-    returns-2)
+    (tie.spec Inv-loop μ-loop loop-holds returns (λ c. search needs) (λ c. search needs) (λ c. search needs) (λ c. search needs) (λ c. search needs)
+    (λ c. search needs) loop-again (λ c. search needs) (λ c. search needs) loop-again-2 (λ c. search needs) (λ c. search needs) (λ c. search needs)
+    (λ c. search needs) (λ c. search needs) (λ c. search needs) loop-again-3 returns-2)

@@ -27,12 +27,6 @@ Inv-loop numbers turnovers panel g units many places₀ kept₀ j₀ places kept
 abbrev μ-loop : tie.MeasureT-loop
 μ-loop numbers turnovers panel g units many places₀ kept₀ j₀ places kept j = many - j
 
-in-frame-requires : tie.Need-in-frame-requires Inv-loop μ-loop
-in-frame-requires c κs = c .before .before .before .pre .0
-
-loop-holds : tie.Need-loop-holds Inv-loop μ-loop
-loop-holds c = (omega arith, omega arith, hold-none _ _ _ refl)
-
 mul-i : tie.Need-mul-i Inv-loop μ-loop
 mul-i c = omega (arith, hold-most _ _ _ _ (c .before .before .before .in-frame .ensures .0))
 
@@ -55,9 +49,6 @@ add-kept c = omega (arith, hold-most _ _ _ _ (c .before .before .before .before 
 
 add-j : tie.Need-add-j Inv-loop μ-loop
 add-j c = omega (arith, hold-most _ _ _ _ (c .before .before .before .before .before .in-frame .ensures .0))
-
-loop-less : tie.Need-loop-less Inv-loop μ-loop
-loop-less c = search needs
 
 loop-again : tie.Need-loop-again Inv-loop μ-loop
 loop-again c =
@@ -96,18 +87,5 @@ returns c =
 pub members-spec : {M : Type 1} → statement M
 members-spec =
     tie.close
-    (tie.spec
-    Inv-loop
-    μ-loop
-    in-frame-requires
-    loop-holds
-    mul-i
-    array-read-i
-    takes-all-requires
-    mul-places
-    array-write-places
-    add-kept
-    add-j
-    loop-less
-    loop-again
-    returns)
+    (tie.spec Inv-loop μ-loop (λ c κs. c .before .before .before .pre .0) (λ c. (omega arith, omega arith, hold-none _ _ _ refl)) mul-i array-read-i
+    takes-all-requires mul-places array-write-places add-kept add-j (λ c. search needs) loop-again returns)

@@ -16,9 +16,6 @@ returns-2 : tie.Need-returns-2
 unfolding badOldPanel
 returns-2 c = sym (or-on _ _ (or-second _ _ (lt-ltb _ _ (c .if2 .taken))))
 
-rising-requires : tie.Need-rising-requires
-rising-requires c κs = search needs
-
 returns-3 : tie.Need-returns-3
 unfolding badOldPanel
 returns-3 c =
@@ -26,4 +23,4 @@ returns-3 c =
     ∙ sym (or-off _ _ (or-off _ _ (le-ltb _ _ (c .before .before .if1 .left)) ∙ le-ltb _ _ (c .before .if2 .left)))
 
 pub bad-old-panel-spec : {M : Type 1} → statement M
-bad-old-panel-spec = tie.close (tie.spec returns returns-2 rising-requires returns-3)
+bad-old-panel-spec = tie.close (tie.spec returns returns-2 (λ c κs. search needs) returns-3)

@@ -6,18 +6,6 @@ use borrow.Author.Needs.{needs}
 use Rattle.oldpanel.proofs.judge.Statement.{statement}
 use Rattle.oldpanel.proofs.judge.Tie as tie
 
-judge-requires : tie.Need-judge-requires
-judge-requires c κs = search needs
-
-enum-known-why : tie.Need-enum-known-why
-enum-known-why c = search needs
-
-enum-told : tie.Need-enum-told
-enum-told c = search needs
-
-judge-old-requires : tie.Need-judge-old-requires
-judge-old-requires c κs = search needs
-
 returns : tie.Need-returns
 returns c =
     let why = c .before .why .given .0 .0 in
@@ -31,5 +19,4 @@ returns-2 c =
 
 pub judge-spec : {M : Type 1} → statement M
 judge-spec =
-    tie.close
-    (tie.spec judge-requires enum-known-why enum-told judge-old-requires returns returns-2)
+    tie.close (tie.spec (λ c κs. search needs) (λ c. search needs) (λ c. search needs) (λ c κs. search needs) returns returns-2)

@@ -5,12 +5,6 @@ use borrow.Author.Needs.{needs}
 use Rattle.oldpanel.proofs.judge_old.Statement.{statement}
 use Rattle.oldpanel.proofs.judge_old.Tie as tie
 
-returns : tie.Need-returns
-returns c = sym (buffer-refused _ _ _ _ (c .if1 .taken))
-
-bad-old-panel-requires : tie.Need-bad-old-panel-requires
-bad-old-panel-requires c κs = search needs
-
 returns-2 : tie.Need-returns-2
 returns-2 c = sym (panel-refused _ _ _ _ (c .before .before .if1 .left) (sym (c .before .bad-old-panel .ensures) ∙ c .if2 .taken))
 
@@ -18,4 +12,4 @@ returns-3 : tie.Need-returns-3
 returns-3 c = sym (panel-passed _ _ _ _ (c .before .before .if1 .left) (sym (c .before .bad-old-panel .ensures) ∙ c .if2 .left))
 
 pub judge-old-spec : {M : Type 1} → statement M
-judge-old-spec = tie.close (tie.spec returns bad-old-panel-requires returns-2 returns-3)
+judge-old-spec = tie.close (tie.spec (λ c. sym (buffer-refused _ _ _ _ (c .if1 .taken))) (λ c κs. search needs) returns-2 returns-3)

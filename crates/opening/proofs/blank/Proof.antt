@@ -3,8 +3,5 @@ use mathlib.Core.Path.{refl}
 use Rattle.opening.proofs.blank.Statement.{statement}
 use Rattle.opening.proofs.blank.Tie as tie
 
-returns : tie.Need-returns
-returns c = refl
-
 pub blank-spec : {M : Type 1} → statement M
-blank-spec = tie.close (tie.spec returns)
+blank-spec = tie.close (tie.spec (λ c. refl))

@@ -21,21 +21,6 @@ use borrow.Author.Needs.{needs}
 use Rattle.opening.proofs.open.Statement.{statement}
 use Rattle.opening.proofs.open.Tie as tie
 
-judge-input-requires : tie.Need-judge-input-requires
-judge-input-requires c κs = search needs
-
-enum-known-input : tie.Need-enum-known-input
-enum-known-input c = search needs
-
-refused-requires : tie.Need-refused-requires
-refused-requires c κs = search needs
-
-enum-told : tie.Need-enum-told
-enum-told c = search needs
-
-blank-requires : tie.Need-blank-requires
-blank-requires c κs = search needs
-
 array-borrow-prefix-places : tie.Need-array-borrow-prefix-places
 array-borrow-prefix-places c =
     let ws = c .before .before .before .before .before .before .before .args .w .now in
@@ -71,15 +56,6 @@ judge-places-requires c κs =
     let b : length (c .before .blank .result) ≡ mostPanel = ap length (c .before .blank .ensures) ∙ length-replicate {A = ℕ} mostPanel 0 in
     let room : length ws ≤ length (c .before .blank .result) = omega (arith, b, i .lists .most) in
     fillable ws gs rs _ i (length-take-le (length ws) (c .before .blank .result) room)
-
-enum-known-filled : tie.Need-enum-known-filled
-enum-known-filled c = search needs
-
-refused-requires-2 : tie.Need-refused-requires-2
-refused-requires-2 c κs = search needs
-
-enum-told-2 : tie.Need-enum-told-2
-enum-told-2 c = search needs
 
 returns : tie.Need-returns
 unfolding openAnswer openedRecord openRefusal inputRefusal placesRefusal lowWeights
@@ -129,18 +105,5 @@ returns-3 c =
 pub open-spec : {M : Type 1} → statement M
 open-spec =
     tie.close
-    (tie.spec
-    judge-input-requires
-    enum-known-input
-    refused-requires
-    enum-told
-    blank-requires
-    array-borrow-prefix-places
-    slice-aggregate-judge-places
-    judge-places-requires
-    enum-known-filled
-    refused-requires-2
-    enum-told-2
-    returns
-    returns-2
-    returns-3)
+    (tie.spec (λ c κs. search needs) (λ c. search needs) (λ c κs. search needs) (λ c. search needs) (λ c κs. search needs) array-borrow-prefix-places
+    slice-aggregate-judge-places judge-places-requires (λ c. search needs) (λ c κs. search needs) (λ c. search needs) returns returns-2 returns-3)

@@ -9,7 +9,7 @@ use Rattle.rules.specs.Limits.{mostWeight}
 use Rattle.rules.specs.Lists.{sum, anyOf}
 use Rattle.rules.specs.Chain.{badBase}
 use Rattle.rules.proofs.Tests.{or-on, or-second, or-off}
-use Rattle.passes.proofs.Lists.{sum-step, sum-end, one-found, one-next, one-none}
+use Rattle.rules.proofs.Lists.{sum-step, sum-end, one-found, one-next, one-none}
 use Rattle.openinput.proofs.bad_base.Statement.{statement}
 use Rattle.openinput.proofs.bad_base.Tie as tie
 
@@ -19,15 +19,6 @@ Inv-loop w total₀ i₀ total i = (i ≤ length w) × (total ≤ mostWeight) ×
 abbrev μ-loop : tie.MeasureT-loop
 μ-loop w total₀ i₀ total i = length w - i
 
-loop-holds : tie.Need-loop-holds Inv-loop μ-loop
-loop-holds c = (omega arith, omega arith, omega arith, refl)
-
-mul-x : tie.Need-mul-x Inv-loop μ-loop
-mul-x c = omega arith
-
-shared-slice-read-x : tie.Need-shared-slice-read-x Inv-loop μ-loop
-shared-slice-read-x c = omega arith
-
 returns : tie.Need-returns Inv-loop μ-loop
 unfolding badBase
 returns c =
@@ -35,9 +26,6 @@ returns c =
     let w = c .before .before .before .before .args .w .now in
     let i = l .i in
     sym (or-on _ _ (sym (one-found (λ x. eqb x 0) w i _ (l .inv .3) (c .before .before .loop-test .taken) (eq-eqb _ _ (c .if1 .taken)))))
-
-sub-if2 : tie.Need-sub-if2 Inv-loop μ-loop
-sub-if2 c = omega arith
 
 returns-2 : tie.Need-returns-2 Inv-loop μ-loop
 unfolding badBase
@@ -47,15 +35,6 @@ returns-2 c =
     let i = l .i in
     let h : mostWeight < sum w = omega (arith, sum-step w i (c .before .before .before .loop-test .taken)) in
     sym (or-second _ _ (lt-ltb mostWeight (sum w) h))
-
-add-total : tie.Need-add-total Inv-loop μ-loop
-add-total c = omega arith
-
-add-i : tie.Need-add-i Inv-loop μ-loop
-add-i c = omega arith
-
-loop-less : tie.Need-loop-less Inv-loop μ-loop
-loop-less c = omega arith
 
 loop-again : tie.Need-loop-again Inv-loop μ-loop
 loop-again c =
@@ -78,17 +57,5 @@ returns-3 c =
 pub bad-base-spec : {M : Type 1} → statement M
 bad-base-spec =
     tie.close
-    (tie.spec
-    Inv-loop
-    μ-loop
-    loop-holds
-    mul-x
-    shared-slice-read-x
-    returns
-    sub-if2
-    returns-2
-    add-total
-    add-i
-    loop-less
-    loop-again
-    returns-3)
+    (tie.spec Inv-loop μ-loop (λ c. (omega arith, omega arith, omega arith, refl)) (λ c. omega arith) (λ c. omega arith) returns (λ c. omega arith)
+    returns-2 (λ c. omega arith) (λ c. omega arith) (λ c. omega arith) loop-again returns-3)

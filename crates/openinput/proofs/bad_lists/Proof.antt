@@ -9,9 +9,6 @@ use borrow.Author.Needs.{needs}
 use Rattle.openinput.proofs.bad_lists.Statement.{statement}
 use Rattle.openinput.proofs.bad_lists.Tie as tie
 
-bad-units-requires : tie.Need-bad-units-requires
-bad-units-requires c κs = search needs
-
 returns : tie.Need-returns
 unfolding badOpenLists _or_
 returns c = simp (sym (c .before .bad-units .ensures) ∙ c .if1 .taken)
@@ -28,4 +25,4 @@ returns-3 c =
     (or-off _ _ (sym (c .before .before .bad-units .ensures) ∙ c .before .if1 .left) ∙ ap not (eq-eqb _ _ (c .if2 .left))))
 
 pub bad-lists-spec : {M : Type 1} → statement M
-bad-lists-spec = tie.close (tie.spec bad-units-requires returns returns-2 returns-3)
+bad-lists-spec = tie.close (tie.spec (λ c κs. search needs) returns returns-2 returns-3)

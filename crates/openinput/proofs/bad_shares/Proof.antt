@@ -9,7 +9,7 @@ use Rattle.rules.specs.Limits.{shareScale}
 use Rattle.rules.specs.Lists.{sum, anyOf}
 use Rattle.rules.specs.Chain.{badShares}
 use Rattle.rules.proofs.Tests.{or-on, or-off}
-use Rattle.passes.proofs.Lists.{sum-step, sum-end, one-found, one-next, one-none}
+use Rattle.rules.proofs.Lists.{sum-step, sum-end, one-found, one-next, one-none}
 use Rattle.openinput.proofs.bad_shares.Statement.{statement}
 use Rattle.openinput.proofs.bad_shares.Tie as tie
 
@@ -18,15 +18,6 @@ Inv-loop g total₀ i₀ total i = (i ≤ length g) × (total ≤ shareScale * i
 
 abbrev μ-loop : tie.MeasureT-loop
 μ-loop g total₀ i₀ total i = length g - i
-
-loop-holds : tie.Need-loop-holds Inv-loop μ-loop
-loop-holds c = (omega arith, omega arith, omega arith, refl)
-
-mul-x : tie.Need-mul-x Inv-loop μ-loop
-mul-x c = omega arith
-
-shared-slice-read-x : tie.Need-shared-slice-read-x Inv-loop μ-loop
-shared-slice-read-x c = omega arith
 
 cast-x : tie.Need-cast-x Inv-loop μ-loop
 cast-x c = omega (arith, c .shared-slice-known .given (c .before .before .loop .i))
@@ -38,15 +29,6 @@ returns c =
     let g = c .before .before .before .before .args .g .now in
     let i = l .i in
     sym (or-on _ _ (sym (one-found (λ x. ltb shareScale x) g i _ (l .inv .3) (c .before .before .loop-test .taken) (lt-ltb _ _ (c .if1 .taken)))))
-
-add-total : tie.Need-add-total Inv-loop μ-loop
-add-total c = omega arith
-
-add-i : tie.Need-add-i Inv-loop μ-loop
-add-i c = omega arith
-
-loop-less : tie.Need-loop-less Inv-loop μ-loop
-loop-less c = omega arith
 
 loop-again : tie.Need-loop-again Inv-loop μ-loop
 loop-again c =
@@ -70,16 +52,5 @@ returns-2 c =
 pub bad-shares-spec : {M : Type 1} → statement M
 bad-shares-spec =
     tie.close
-    (tie.spec
-    Inv-loop
-    μ-loop
-    loop-holds
-    mul-x
-    shared-slice-read-x
-    cast-x
-    returns
-    add-total
-    add-i
-    loop-less
-    loop-again
-    returns-2)
+    (tie.spec Inv-loop μ-loop (λ c. (omega arith, omega arith, omega arith, refl)) (λ c. omega arith) (λ c. omega arith) cast-x returns
+    (λ c. omega arith) (λ c. omega arith) (λ c. omega arith) loop-again returns-2)

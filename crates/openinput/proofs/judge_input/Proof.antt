@@ -1,22 +1,16 @@
 -- `judge_input` gives 9 to 13 or none as its tests say; once 9 does not apply the lists are short and of one length.
 use native.Mathlib.Omega.{arith}
 use mathlib.Core.Path.{sym, _∙_}
-use Rattle.rules.specs.Tests.{refuse}
+use Rattle.rules.specs.Refusals.{refuse, _then_}
 use Rattle.openinput.specs.Input.{inputRefusal}
 use Rattle.openinput.proofs.Input.{even}
 use borrow.Author.Needs.{needs}
 use Rattle.openinput.proofs.judge_input.Statement.{statement}
 use Rattle.openinput.proofs.judge_input.Tie as tie
 
-bad-lists-requires : tie.Need-bad-lists-requires
-bad-lists-requires c κs = search needs
-
 returns : tie.Need-returns
 unfolding inputRefusal refuse
 returns c = simp (sym (c .before .bad-lists .ensures) ∙ c .if1 .taken)
-
-bad-base-requires : tie.Need-bad-base-requires
-bad-base-requires c κs = search needs
 
 returns-2 : tie.Need-returns-2
 unfolding inputRefusal refuse
@@ -36,9 +30,6 @@ returns-3 c =
       sym (c .before .before .before .bad-base .ensures) ∙ c .before .before .if2 .left,
       sym (c .before .bad-shares .ensures) ∙ c .if3 .taken,
     )
-
-bad-index-requires : tie.Need-bad-index-requires
-bad-index-requires c κs = search needs
 
 returns-4 : tie.Need-returns-4
 unfolding inputRefusal refuse
@@ -81,15 +72,5 @@ returns-6 c =
 pub judge-input-spec : {M : Type 1} → statement M
 judge-input-spec =
     tie.close
-    (tie.spec
-    bad-lists-requires
-    returns
-    bad-base-requires
-    returns-2
-    bad-shares-requires
-    returns-3
-    bad-index-requires
-    returns-4
-    any-bad-update-requires
-    returns-5
-    returns-6)
+    (tie.spec (λ c κs. search needs) returns (λ c κs. search needs) returns-2 bad-shares-requires returns-3 (λ c κs. search needs) returns-4
+    any-bad-update-requires returns-5 returns-6)

@@ -8,7 +8,7 @@ use native.Mathlib.Numerals.{add-one}
 use lib.ListN.{length, getD, drop, length-set}
 use Rattle.rules.specs.Limits.{shareScale, relativeScale}
 use Rattle.rules.specs.Chain.{badWeight, shared}
-use Rattle.passes.proofs.Lists.{product-le, scaled-at}
+use Rattle.rules.proofs.Lists.{product-le, scaled-at}
 use Rattle.openweights.specs.Places.{lowWeights}
 use Rattle.openweights.proofs.Filling.{openingAt, filled, filled-none, filled-step, filled-all, low-shared, low-opening, low-next, low-none}
 use Rattle.openweights.proofs.fill.Statement.{statement}
@@ -25,26 +25,8 @@ loop-holds c =
     let a = c .before .before .before .before .args in
     (omega arith, refl, refl, sym (filled-none (a .w .now) (a .g .now) (a .a .now) (a .places .now)))
 
-mul-mark : tie.Need-mul-mark Inv-loop μ-loop
-mul-mark c = omega arith
-
-shared-slice-read-mark : tie.Need-shared-slice-read-mark Inv-loop μ-loop
-shared-slice-read-mark c = omega arith
-
 cast-mark : tie.Need-cast-mark Inv-loop μ-loop
 cast-mark c = omega (arith, c .shared-slice-known4 .given (c .before .before .loop .i))
-
-mul-shared-weight : tie.Need-mul-shared-weight Inv-loop μ-loop
-mul-shared-weight c = omega arith
-
-shared-slice-read-shared-weight : tie.Need-shared-slice-read-shared-weight Inv-loop μ-loop
-shared-slice-read-shared-weight c = omega arith
-
-mul-shared-weight-2 : tie.Need-mul-shared-weight-2 Inv-loop μ-loop
-mul-shared-weight-2 c = omega arith
-
-shared-slice-read-shared-weight-2 : tie.Need-shared-slice-read-shared-weight-2 Inv-loop μ-loop
-shared-slice-read-shared-weight-2 c = omega arith
 
 shared-weight-requires : tie.Need-shared-weight-requires Inv-loop μ-loop
 shared-weight-requires c κs =
@@ -55,9 +37,6 @@ shared-weight-requires c κs =
     let pre = c .before .before .before .before .before .before .before .before .before .pre in
     let i = l .i in
     omega (arith, pre .sharedFit, product-le ws gs i)
-
-bad-weight-requires : tie.Need-bad-weight-requires Inv-loop μ-loop
-bad-weight-requires c κs = search needs
 
 same-length : tie.Need-same-length Inv-loop μ-loop
 same-length c = c .before .before .before .before .before .before .before .loop .inv .1
@@ -76,12 +55,6 @@ returns c =
       λ e. absurd (true≢false e),
     )
 
-mul-opening-weight : tie.Need-mul-opening-weight Inv-loop μ-loop
-mul-opening-weight c = omega arith
-
-shared-slice-read-opening-weight : tie.Need-shared-slice-read-opening-weight Inv-loop μ-loop
-shared-slice-read-opening-weight c = omega arith
-
 opening-weight-requires : tie.Need-opening-weight-requires Inv-loop μ-loop
 opening-weight-requires c κs =
     let l = c .before .before .before .before .before .before .before .before .loop in
@@ -92,9 +65,6 @@ opening-weight-requires c κs =
     let i = l .i in
     let e = c .before .before .before .shared-weight .ensures ∙ sym (scaled-at shareScale i ws gs (c .before .before .before .before .before .before .before .loop-test .taken) (sym (pre .shares))) in
     rw e (omega (arith, pre .openingFit, product-le (shared ws gs) rs i))
-
-bad-weight-requires-2 : tie.Need-bad-weight-requires-2 Inv-loop μ-loop
-bad-weight-requires-2 c κs = search needs
 
 same-length-2 : tie.Need-same-length-2 Inv-loop μ-loop
 same-length-2 c = c .before .before .before .before .before .before .before .before .before .before .before .loop .inv .1
@@ -113,18 +83,6 @@ returns-2 c =
           (sym bv ∙ sym (c .before .bad-weight2 .ensures) ∙ c .if2 .taken),
       λ e. absurd (true≢false e),
     )
-
-mul-places : tie.Need-mul-places Inv-loop μ-loop
-mul-places c = omega arith
-
-slice-write-places : tie.Need-slice-write-places Inv-loop μ-loop
-slice-write-places c = omega arith
-
-add-i : tie.Need-add-i Inv-loop μ-loop
-add-i c = omega arith
-
-loop-less : tie.Need-loop-less Inv-loop μ-loop
-loop-less c = omega arith
 
 loop-again : tie.Need-loop-again Inv-loop μ-loop
 loop-again c =
@@ -147,9 +105,6 @@ loop-again c =
       rw (v, l .inv .3, add-one) (filled-step i ws gs rs ps (c .before .before .before .before .before .before .before .before .before .before .loop-test .taken) (pre .shares) (pre .relatives) (pre .room)),
     )
 
-same-length-3 : tie.Need-same-length-3 Inv-loop μ-loop
-same-length-3 c = c .before .loop .inv .1
-
 returns-3 : tie.Need-returns-3 Inv-loop μ-loop
 returns-3 c =
     let l = c .before .loop in
@@ -166,31 +121,7 @@ returns-3 c =
 pub fill-spec : {M : Type 1} → statement M
 fill-spec =
     tie.close
-    (tie.spec
-    Inv-loop
-    μ-loop
-    loop-holds
-    mul-mark
-    shared-slice-read-mark
-    cast-mark
-    mul-shared-weight
-    shared-slice-read-shared-weight
-    mul-shared-weight-2
-    shared-slice-read-shared-weight-2
-    shared-weight-requires
-    bad-weight-requires
-    same-length
-    returns
-    mul-opening-weight
-    shared-slice-read-opening-weight
-    opening-weight-requires
-    bad-weight-requires-2
-    same-length-2
-    returns-2
-    mul-places
-    slice-write-places
-    add-i
-    loop-less
-    loop-again
-    same-length-3
-    returns-3)
+    (tie.spec Inv-loop μ-loop loop-holds (λ c. omega arith) (λ c. omega arith) cast-mark (λ c. omega arith) (λ c. omega arith) (λ c. omega arith)
+    (λ c. omega arith) shared-weight-requires (λ c κs. search needs) same-length returns (λ c. omega arith) (λ c. omega arith) opening-weight-requires
+    (λ c κs. search needs) same-length-2 returns-2 (λ c. omega arith) (λ c. omega arith) (λ c. omega arith) (λ c. omega arith) loop-again
+    (λ c. c .before .loop .inv .1) returns-3)

@@ -5,7 +5,7 @@ use mathlib.Core.List.{List}
 use Prim.Native.Nat.{ℕ, _+_, min}
 use borrow.Author.Tests.{lt-ltb, le-ltb}
 use Rattle.rules.specs.Limits.{mostWeight}
-use Rattle.rules.specs.Tests.{refuse}
+use Rattle.rules.specs.Refusals.{refuse, _then_}
 use Rattle.rules.specs.Lists.{sum}
 use Rattle.weights.proofs.Capped.{cut-over}
 use Rattle.openweights.specs.Places.{placesRefusal}
@@ -13,21 +13,9 @@ use borrow.Author.Needs.{needs}
 use Rattle.openweights.proofs.judge_places.Statement.{statement}
 use Rattle.openweights.proofs.judge_places.Tie as tie
 
-fill-requires : tie.Need-fill-requires
-fill-requires c κs = search needs
-
-same-length : tie.Need-same-length
-same-length c = search needs
-
 returns : tie.Need-returns
 unfolding placesRefusal refuse
 returns c = (simp (sym (c .before .before .before .fill .ensures .0) ∙ c .if1 .taken), λ e. absurd (omega arith))
-
-capped-sum-requires : tie.Need-capped-sum-requires
-capped-sum-requires c κs = search needs
-
-same-length-2 : tie.Need-same-length-2
-same-length-2 c = search needs
 
 returns-2 : tie.Need-returns-2
 unfolding placesRefusal refuse
@@ -36,9 +24,6 @@ returns-2 c =
     let total = c .before .capped-sum .ensures ∙ ap (λ (l : List ℕ). min (sum l) (mostWeight + 1)) places in
     let over = sym (cut-over _ _ mostWeight total) ∙ lt-ltb _ _ (c .if2 .taken) in
     (simp (sym (c .before .before .before .before .before .before .fill .ensures .0) ∙ c .before .before .before .if1 .left, over), λ e. absurd (omega arith))
-
-same-length-3 : tie.Need-same-length-3
-same-length-3 c = search needs
 
 returns-3 : tie.Need-returns-3
 unfolding placesRefusal refuse
@@ -51,12 +36,4 @@ returns-3 c =
 pub judge-places-spec : {M : Type 1} → statement M
 judge-places-spec =
     tie.close
-    (tie.spec
-    fill-requires
-    same-length
-    returns
-    capped-sum-requires
-    same-length-2
-    returns-2
-    same-length-3
-    returns-3)
+    (tie.spec (λ c κs. search needs) (λ c. search needs) returns (λ c κs. search needs) (λ c. search needs) returns-2 (λ c. search needs) returns-3)

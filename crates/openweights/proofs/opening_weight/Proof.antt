@@ -4,11 +4,5 @@ use borrow.Author.Needs.{needs}
 use Rattle.openweights.proofs.opening_weight.Statement.{statement}
 use Rattle.openweights.proofs.opening_weight.Tie as tie
 
-mul-result : tie.Need-mul-result
-mul-result c = search needs
-
-returns : tie.Need-returns
-returns c = refl
-
 pub opening-weight-spec : {M : Type 1} → statement M
-opening-weight-spec = tie.close (tie.spec mul-result returns)
+opening-weight-spec = tie.close (tie.spec (λ c. search needs) (λ c. refl))

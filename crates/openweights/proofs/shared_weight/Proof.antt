@@ -4,11 +4,5 @@ use borrow.Author.Needs.{needs}
 use Rattle.openweights.proofs.shared_weight.Statement.{statement}
 use Rattle.openweights.proofs.shared_weight.Tie as tie
 
-mul-result : tie.Need-mul-result
-mul-result c = search needs
-
-returns : tie.Need-returns
-returns c = refl
-
 pub shared-weight-spec : {M : Type 1} → statement M
-shared-weight-spec = tie.close (tie.spec mul-result returns)
+shared-weight-spec = tie.close (tie.spec (λ c. search needs) (λ c. refl))

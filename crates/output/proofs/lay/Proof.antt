@@ -18,29 +18,11 @@ abbrev μ-loop : tie.MeasureT-loop
 returns : tie.Need-returns Inv-loop μ-loop
 returns c = (omega (arith, c .before .bytes .given, c .before .before .pre), no-room (c .before .before .args .out .now) (c .before .before .args .text .now) (c .before .before .args .at) (c .before .before .args .count) (c .before .before .pre) (omega arith))
 
-sub-if2 : tie.Need-sub-if2 Inv-loop μ-loop
-sub-if2 c = omega arith
-
 returns-2 : tie.Need-returns-2 Inv-loop μ-loop
 returns-2 c = (omega (arith, c .before .before .bytes .given, c .before .before .before .pre), no-room (c .before .before .before .args .out .now) (c .before .before .before .args .text .now) (c .before .before .before .args .at) (c .before .before .before .args .count) (c .before .before .before .pre) (omega arith))
 
 loop-holds : tie.Need-loop-holds Inv-loop μ-loop
 loop-holds c = (omega arith, omega arith, refl, paste-zero (c .before .before .before .args .out .now) (c .before .before .before .args .at) (c .before .before .before .args .text .now))
-
-shared-slice-read-out : tie.Need-shared-slice-read-out Inv-loop μ-loop
-shared-slice-read-out c = omega arith
-
-add-out : tie.Need-add-out Inv-loop μ-loop
-add-out c = omega arith
-
-slice-write-out : tie.Need-slice-write-out Inv-loop μ-loop
-slice-write-out c = omega arith
-
-add-i : tie.Need-add-i Inv-loop μ-loop
-add-i c = omega arith
-
-loop-less : tie.Need-loop-less Inv-loop μ-loop
-loop-less c = omega arith
 
 loop-again : tie.Need-loop-again Inv-loop μ-loop
 loop-again c =
@@ -50,9 +32,6 @@ loop-again c =
     let within : i < length (a .text .now) = omega (arith, c .before .before .before .before .before .before .pre) in
     (omega arith, omega arith, simp length-set (c .before .before .loop .inv .2), rw (c .before .before .loop .inv .3, add-one) (paste-suc (a .out .now) (a .at) (a .text .now) i 0 room within))
 
-same-length : tie.Need-same-length Inv-loop μ-loop
-same-length c = c .before .loop .inv .2
-
 returns-3 : tie.Need-returns-3 Inv-loop μ-loop
 returns-3 c =
     let a = c .before .before .before .before .before .args in
@@ -61,18 +40,5 @@ returns-3 c =
 pub lay-spec : {M : Type 1} → statement M
 lay-spec =
     tie.close
-    (tie.spec
-    Inv-loop
-    μ-loop
-    returns
-    sub-if2
-    returns-2
-    loop-holds
-    shared-slice-read-out
-    add-out
-    slice-write-out
-    add-i
-    loop-less
-    loop-again
-    same-length
-    returns-3)
+    (tie.spec Inv-loop μ-loop returns (λ c. omega arith) returns-2 loop-holds (λ c. omega arith) (λ c. omega arith) (λ c. omega arith)
+    (λ c. omega arith) (λ c. omega arith) loop-again (λ c. c .before .loop .inv .2) returns-3)

@@ -16,17 +16,8 @@ Inv-loop stream out₀ text₀ unread₀ held₀ at₀ out text unread held at =
 abbrev μ-loop : tie.MeasureT-loop
 μ-loop stream out₀ text₀ unread₀ held₀ at₀ out text unread held at = length unread
 
-text-room-requires : tie.Need-text-room-requires Inv-loop μ-loop
-text-room-requires c κs = search needs
-
-empty-requires : tie.Need-empty-requires Inv-loop μ-loop
-empty-requires c κs = search needs
-
 loop-holds : tie.Need-loop-holds Inv-loop μ-loop
 loop-holds c = start (c .before .before .before .before .args .stream .now) (c .before .before .before .before .args .out .now) (jobOf (c .empty .result)) (c .empty .ensures)
-
-turn-requires : tie.Need-turn-requires Inv-loop μ-loop
-turn-requires c κs = search needs
 
 lay-requires : tie.Need-lay-requires Inv-loop μ-loop
 lay-requires c κs = count-within _ _ _ (c .before .before .turn .ensures)
@@ -42,9 +33,6 @@ returns c =
     let l = c .before .before .before .before .before .before .before .before .before .loop in
     let t = c .before .before .before .before .before .before .before .turn in
     ends _ _ _ (l .unread .now) (jobOf (l .held)) _ (l .inv) (t .result) _ _ _ (t .ensures) (c .before .before .before .before .lay .ensures .1) (not-true _ (c .if1 .taken))
-
-rest-requires : tie.Need-rest-requires Inv-loop μ-loop
-rest-requires c κs = search needs
 
 loop-less : tie.Need-loop-less Inv-loop μ-loop
 loop-less c =
@@ -62,17 +50,5 @@ loop-again c =
 pub pass-spec : {M : Type 1} → statement M
 pass-spec =
     tie.close
-    (tie.spec
-    Inv-loop
-    μ-loop
-    text-room-requires
-    empty-requires
-    loop-holds
-    turn-requires
-    lay-requires
-    add-at
-    same-length
-    returns
-    rest-requires
-    loop-less
-    loop-again)
+    (tie.spec Inv-loop μ-loop (λ c κs. search needs) (λ c κs. search needs) loop-holds (λ c κs. search needs) lay-requires add-at same-length returns
+    (λ c κs. search needs) loop-less loop-again)

@@ -15,21 +15,6 @@ Inv-loop units len from end next₀ k₀ next k = (k ≤ len) × Next units k fr
 abbrev μ-loop : tie.MeasureT-loop
 μ-loop units len from end next₀ k₀ next k = len - k
 
-loop-holds : tie.Need-loop-holds Inv-loop μ-loop
-loop-holds c = (omega arith, next-none _ _ _)
-
-mul-unit : tie.Need-mul-unit Inv-loop μ-loop
-mul-unit c = search needs
-
-shared-slice-read-unit : tie.Need-shared-slice-read-unit Inv-loop μ-loop
-shared-slice-read-unit c = search needs
-
-add-k : tie.Need-add-k Inv-loop μ-loop
-add-k c = search needs
-
-loop-less : tie.Need-loop-less Inv-loop μ-loop
-loop-less c = search needs
-
 loop-again : tie.Need-loop-again Inv-loop μ-loop
 loop-again c =
     let a = c .before .before .before .before .args in
@@ -52,13 +37,5 @@ returns c =
 pub next-unit-spec : {M : Type 1} → statement M
 next-unit-spec =
     tie.close
-    (tie.spec
-    Inv-loop
-    μ-loop
-    loop-holds
-    mul-unit
-    shared-slice-read-unit
-    add-k
-    loop-less
-    loop-again
-    returns)
+    (tie.spec Inv-loop μ-loop (λ c. (omega arith, next-none _ _ _)) (λ c. search needs) (λ c. search needs) (λ c. search needs) (λ c. search needs)
+    loop-again returns)

@@ -9,24 +9,9 @@ use Rattle.rules.specs.TakeAll.{turnover, baseWeight}
 use Rattle.panel.proofs.weight_of.Statement.{statement}
 use Rattle.panel.proofs.weight_of.Tie as tie
 
-mul-result : tie.Need-mul-result
-mul-result c = search needs
-
-shared-slice-read-result : tie.Need-shared-slice-read-result
-shared-slice-read-result c = search needs
-
 returns : tie.Need-returns
 unfolding baseWeight
 returns c = rw (eq-eqb _ _ (c .before .if1 .taken))
-
-takes-all-requires : tie.Need-takes-all-requires
-takes-all-requires c κs = search needs
-
-mul-result-2 : tie.Need-mul-result-2
-mul-result-2 c = search needs
-
-shared-slice-read-result-2 : tie.Need-shared-slice-read-result-2
-shared-slice-read-result-2 c = search needs
 
 mul-result-3 : tie.Need-mul-result-3
 mul-result-3 c =
@@ -45,13 +30,5 @@ returns-3 c = rw (ne-eqb _ _ (c .before .before .if1 .left), sym (c .before .tak
 pub weight-of-spec : {M : Type 1} → statement M
 weight-of-spec =
     tie.close
-    (tie.spec
-    mul-result
-    shared-slice-read-result
-    returns
-    takes-all-requires
-    mul-result-2
-    shared-slice-read-result-2
-    mul-result-3
-    returns-2
+    (tie.spec (λ c. search needs) (λ c. search needs) returns (λ c κs. search needs) (λ c. search needs) (λ c. search needs) mul-result-3 returns-2
     returns-3)

@@ -55,9 +55,6 @@ mul-is-passed c = omega (arith, c .loop-test .taken, c .before .before .before .
 array-read-is-passed : tie.Need-array-read-is-passed Inv-loop μ-loop
 array-read-is-passed c = omega (arith, c .loop-test .taken, c .before .before .before .before .before .before .before .before .before .before .pre .0 .1 .few, c .before .before .before .before .before .before .before .before .before .before .pre .0 .1 .parts-room)
 
-is-passed-requires : tie.Need-is-passed-requires Inv-loop μ-loop
-is-passed-requires c κs = search needs
-
 mul-panel : tie.Need-mul-panel Inv-loop μ-loop
 mul-panel c = omega (arith, c .before .before .before .before .before .before .before .before .before .before .before .before .pre .0 .1 .low (c .before .before .before .loop .j) (c .before .before .loop-test .taken), c .before .before .before .before .before .before .before .before .before .before .before .before .pre .1 .0, c .before .before .before .before .before .before .before .before .before .before .before .before .good)
 
@@ -84,9 +81,6 @@ add-k c = omega (arith, room (marks (c .before .before .before .before .before .
 
 add-j : tie.Need-add-j Inv-loop μ-loop
 add-j c = omega (arith, c .before .before .loop-test .taken, c .before .before .before .before .before .before .before .before .before .before .before .before .pre .0 .1 .few)
-
-loop-less : tie.Need-loop-less Inv-loop μ-loop
-loop-less c = search needs
 
 loop-again : tie.Need-loop-again Inv-loop μ-loop
 loop-again c =
@@ -120,12 +114,6 @@ loop-again c =
     ))
     (c .if1 .came)
 
-same-length : tie.Need-same-length Inv-loop μ-loop
-same-length c = c .before .loop .inv .3
-
-same-length-2 : tie.Need-same-length-2 Inv-loop μ-loop
-same-length-2 c = c .before .loop .inv .5
-
 returns : tie.Need-returns Inv-loop μ-loop
 returns c =
     let s = c .before .before .before .before .before .before .before .before .before .before in
@@ -140,26 +128,6 @@ returns c =
 pub write-found-spec : {M : Type 1} → statement M
 write-found-spec =
     tie.close
-    (tie.spec
-    Inv-loop
-    μ-loop
-    loop-holds
-    mul-i
-    array-read-i
-    mul-is-passed
-    array-read-is-passed
-    is-passed-requires
-    mul-panel
-    shared-slice-read-panel
-    mul-panel-2
-    slice-write-panel
-    weight-of-requires
-    mul-weights
-    slice-write-weights
-    add-k
-    add-j
-    loop-less
-    loop-again
-    same-length
-    same-length-2
-    returns)
+    (tie.spec Inv-loop μ-loop loop-holds mul-i array-read-i mul-is-passed array-read-is-passed (λ c κs. search needs) mul-panel
+    shared-slice-read-panel mul-panel-2 slice-write-panel weight-of-requires mul-weights slice-write-weights add-k add-j (λ c. search needs)
+    loop-again (λ c. c .before .loop .inv .3) (λ c. c .before .loop .inv .5) returns)

@@ -114,12 +114,6 @@ loop-again c =
       simp length-set (at .inv .6),
     )
 
-same-length : tie.Need-same-length Inv-loop μ-loop
-same-length c = c .before .loop .inv .4
-
-same-length-2 : tie.Need-same-length-2 Inv-loop μ-loop
-same-length-2 c = c .before .loop .inv .6
-
 returns : tie.Need-returns Inv-loop μ-loop
 returns c =
     let s = c .before .before .before .before .before .before .before .before .before .before in
@@ -134,24 +128,6 @@ returns c =
 pub write-panel-spec : {M : Type 1} → statement M
 write-panel-spec =
     tie.close
-    (tie.spec
-    Inv-loop
-    μ-loop
-    add-size
-    loop-holds
-    next-unit-requires
-    next-unit-requires-2
-    mul-panel
-    shared-slice-read-panel
-    mul-panel-2
-    slice-write-panel
-    weight-of-requires
-    mul-weights
-    slice-write-weights
-    add-from
-    add-k
-    loop-less
-    loop-again
-    same-length
-    same-length-2
-    returns)
+    (tie.spec Inv-loop μ-loop add-size loop-holds next-unit-requires next-unit-requires-2 mul-panel shared-slice-read-panel mul-panel-2
+    slice-write-panel weight-of-requires mul-weights slice-write-weights add-from add-k loop-less loop-again (λ c. c .before .loop .inv .4)
+    (λ c. c .before .loop .inv .6) returns)

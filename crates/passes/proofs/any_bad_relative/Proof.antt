@@ -6,7 +6,7 @@ use Prim.Native.Nat.{_-_, _≤_}
 use lib.ListN.{length, drop}
 use Rattle.rules.specs.Lists.{anyPair}
 use Rattle.rules.specs.Chain.{badRelative}
-use Rattle.passes.proofs.Lists.{pair-found, pair-next, pair-none}
+use Rattle.rules.proofs.Lists.{pair-found, pair-next, pair-none}
 use Rattle.passes.proofs.any_bad_relative.Statement.{statement}
 use Rattle.passes.proofs.any_bad_relative.Tie as tie
 
@@ -16,24 +16,6 @@ Inv-loop marks p i₀ i = (i ≤ length marks) × (anyPair badRelative (drop i m
 abbrev μ-loop : tie.MeasureT-loop
 μ-loop marks p i₀ i = length marks - i
 
-loop-holds : tie.Need-loop-holds Inv-loop μ-loop
-loop-holds c = (omega arith, refl)
-
-mul-bad-relative : tie.Need-mul-bad-relative Inv-loop μ-loop
-mul-bad-relative c = omega arith
-
-shared-slice-read-bad-relative : tie.Need-shared-slice-read-bad-relative Inv-loop μ-loop
-shared-slice-read-bad-relative c = omega arith
-
-mul-bad-relative-2 : tie.Need-mul-bad-relative-2 Inv-loop μ-loop
-mul-bad-relative-2 c = omega arith
-
-shared-slice-read-bad-relative-2 : tie.Need-shared-slice-read-bad-relative-2 Inv-loop μ-loop
-shared-slice-read-bad-relative-2 c = omega arith
-
-bad-relative-requires : tie.Need-bad-relative-requires Inv-loop μ-loop
-bad-relative-requires c κs = search needs
-
 returns : tie.Need-returns Inv-loop μ-loop
 returns c =
     let l = c .before .before .before .before .before in
@@ -42,12 +24,6 @@ returns c =
     (c .before .before .before .before .loop-test .taken)
     (omega arith)
     (sym (c .before .bad-relative .ensures) ∙ c .if1 .taken)
-
-add-i : tie.Need-add-i Inv-loop μ-loop
-add-i c = omega arith
-
-loop-less : tie.Need-loop-less Inv-loop μ-loop
-loop-less c = omega arith
 
 loop-again : tie.Need-loop-again Inv-loop μ-loop
 loop-again c =
@@ -68,17 +44,5 @@ returns-2 c =
 pub any-bad-relative-spec : {M : Type 1} → statement M
 any-bad-relative-spec =
     tie.close
-    (tie.spec
-    Inv-loop
-    μ-loop
-    loop-holds
-    mul-bad-relative
-    shared-slice-read-bad-relative
-    mul-bad-relative-2
-    shared-slice-read-bad-relative-2
-    bad-relative-requires
-    returns
-    add-i
-    loop-less
-    loop-again
-    returns-2)
+    (tie.spec Inv-loop μ-loop (λ c. (omega arith, refl)) (λ c. omega arith) (λ c. omega arith) (λ c. omega arith) (λ c. omega arith)
+    (λ c κs. search needs) returns (λ c. omega arith) (λ c. omega arith) loop-again returns-2)

@@ -4,7 +4,7 @@ use Prim.Native.Nat.{_-_, _≤_}
 use lib.ListN.{length, drop}
 use Rattle.rules.specs.Lists.{anyPair}
 use Rattle.rules.specs.Chain.{badWeight}
-use Rattle.passes.proofs.Lists.{pair-found, pair-next, pair-none}
+use Rattle.rules.proofs.Lists.{pair-found, pair-next, pair-none}
 use native.Mathlib.Omega.{arith}
 use borrow.Author.Needs.{needs}
 use Rattle.passes.proofs.any_low.Statement.{statement}
@@ -16,24 +16,6 @@ Inv-loop marks weights i₀ i = (i ≤ length marks) × (anyPair badWeight (drop
 abbrev μ-loop : tie.MeasureT-loop
 μ-loop marks weights i₀ i = length marks - i
 
-loop-holds : tie.Need-loop-holds Inv-loop μ-loop
-loop-holds c = (omega arith, refl)
-
-mul-bad-weight : tie.Need-mul-bad-weight Inv-loop μ-loop
-mul-bad-weight c = omega arith
-
-shared-slice-read-bad-weight : tie.Need-shared-slice-read-bad-weight Inv-loop μ-loop
-shared-slice-read-bad-weight c = omega arith
-
-mul-bad-weight-2 : tie.Need-mul-bad-weight-2 Inv-loop μ-loop
-mul-bad-weight-2 c = omega arith
-
-shared-slice-read-bad-weight-2 : tie.Need-shared-slice-read-bad-weight-2 Inv-loop μ-loop
-shared-slice-read-bad-weight-2 c = omega arith
-
-bad-weight-requires : tie.Need-bad-weight-requires Inv-loop μ-loop
-bad-weight-requires c κs = search needs
-
 returns : tie.Need-returns Inv-loop μ-loop
 returns c =
     let l = c .before .before .before .before .before in
@@ -42,12 +24,6 @@ returns c =
     (c .before .before .before .before .loop-test .taken)
     (omega arith)
     (sym (c .before .bad-weight .ensures) ∙ c .if1 .taken)
-
-add-i : tie.Need-add-i Inv-loop μ-loop
-add-i c = omega arith
-
-loop-less : tie.Need-loop-less Inv-loop μ-loop
-loop-less c = omega arith
 
 loop-again : tie.Need-loop-again Inv-loop μ-loop
 loop-again c =
@@ -68,17 +44,5 @@ returns-2 c =
 pub any-low-spec : {M : Type 1} → statement M
 any-low-spec =
     tie.close
-    (tie.spec
-    Inv-loop
-    μ-loop
-    loop-holds
-    mul-bad-weight
-    shared-slice-read-bad-weight
-    mul-bad-weight-2
-    shared-slice-read-bad-weight-2
-    bad-weight-requires
-    returns
-    add-i
-    loop-less
-    loop-again
-    returns-2)
+    (tie.spec Inv-loop μ-loop (λ c. (omega arith, refl)) (λ c. omega arith) (λ c. omega arith) (λ c. omega arith) (λ c. omega arith)
+    (λ c κs. search needs) returns (λ c. omega arith) (λ c. omega arith) loop-again returns-2)

@@ -5,7 +5,7 @@ use Prim.Native.Nat.{_+_, _-_, _≤_}
 use lib.ListN.{length, drop}
 use Rattle.rules.specs.Limits.{mostWeight}
 use Rattle.rules.specs.Lists.{sum}
-use Rattle.passes.proofs.Lists.{sum-step, sum-end}
+use Rattle.rules.proofs.Lists.{sum-step, sum-end}
 use Rattle.passes.proofs.capped_sum.Statement.{statement}
 use Rattle.passes.proofs.capped_sum.Tie as tie
 
@@ -20,31 +20,10 @@ loop-holds c =
     let e : drop 0 (c .args .weights .now) ≡ c .args .weights .now = refl in
     omega arith
 
-mul-x : tie.Need-mul-x Inv-loop μ-loop
-mul-x c = omega arith
-
-shared-slice-read-x : tie.Need-shared-slice-read-x Inv-loop μ-loop
-shared-slice-read-x c = omega arith
-
-sub-if1 : tie.Need-sub-if1 Inv-loop μ-loop
-sub-if1 c = omega arith
-
-add-result : tie.Need-add-result Inv-loop μ-loop
-add-result c = omega arith
-
 returns : tie.Need-returns Inv-loop μ-loop
 returns c =
     let l = c .before .before .before in
     omega (arith, sum-step (l .before .args .weights .now) (l .loop .i) (c .before .before .loop-test .taken))
-
-add-acc : tie.Need-add-acc Inv-loop μ-loop
-add-acc c = omega arith
-
-add-i : tie.Need-add-i Inv-loop μ-loop
-add-i c = omega arith
-
-loop-less : tie.Need-loop-less Inv-loop μ-loop
-loop-less c = omega arith
 
 loop-again : tie.Need-loop-again Inv-loop μ-loop
 loop-again c =
@@ -59,17 +38,5 @@ returns-2 c =
 pub capped-sum-spec : {M : Type 1} → statement M
 capped-sum-spec =
     tie.close
-    (tie.spec
-    Inv-loop
-    μ-loop
-    loop-holds
-    mul-x
-    shared-slice-read-x
-    sub-if1
-    add-result
-    returns
-    add-acc
-    add-i
-    loop-less
-    loop-again
-    returns-2)
+    (tie.spec Inv-loop μ-loop loop-holds (λ c. omega arith) (λ c. omega arith) (λ c. omega arith) (λ c. omega arith) returns (λ c. omega arith)
+    (λ c. omega arith) (λ c. omega arith) loop-again returns-2)

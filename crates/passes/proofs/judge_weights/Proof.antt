@@ -2,22 +2,16 @@
 use mathlib.Core.Path.{sym, _∙_}
 use borrow.Author.Tests.{lt-ltb, le-ltb}
 use Rattle.rules.specs.Limits.{mostWeight}
-use Rattle.rules.specs.Tests.{refuse}
+use Rattle.rules.specs.Refusals.{refuse, _then_}
 use Rattle.passes.specs.WeightRefusal.{weightRefusal}
 use Rattle.weights.proofs.Capped.{cut-over}
 use borrow.Author.Needs.{needs}
 use Rattle.passes.proofs.judge_weights.Statement.{statement}
 use Rattle.passes.proofs.judge_weights.Tie as tie
 
-any-low-requires : tie.Need-any-low-requires
-any-low-requires c κs = search needs
-
 returns : tie.Need-returns
 unfolding weightRefusal refuse
 returns c = simp (sym (c .before .any-low .ensures) ∙ c .if1 .taken)
-
-capped-sum-requires : tie.Need-capped-sum-requires
-capped-sum-requires c κs = search needs
 
 returns-2 : tie.Need-returns-2
 unfolding weightRefusal refuse
@@ -32,4 +26,4 @@ returns-3 c =
     simp (sym (c .before .before .before .any-low .ensures) ∙ c .before .before .if1 .left, within)
 
 pub judge-weights-spec : {M : Type 1} → statement M
-judge-weights-spec = tie.close (tie.spec any-low-requires returns capped-sum-requires returns-2 returns-3)
+judge-weights-spec = tie.close (tie.spec (λ c κs. search needs) returns (λ c κs. search needs) returns-2 returns-3)

@@ -5,7 +5,7 @@ use mathlib.Core.Path.{_≡_, refl, sym, ap, _∙_}
 use Prim.Native.Nat.{ℕ, _-_, _≤_, _<_}
 use native.Mathlib.Numerals.{add-one}
 use lib.ListN.{length, getD, length-set}
-use Rattle.passes.proofs.Lists.{product-le, scaledTo, scaledTo-none, scaledTo-at, scaledTo-step, scaledTo-all}
+use Rattle.rules.proofs.Lists.{product-le, scaledTo, scaledTo-none, scaledTo-at, scaledTo-step, scaledTo-all}
 use Rattle.passes.proofs.rescale.Statement.{statement}
 use Rattle.passes.proofs.rescale.Tie as tie
 
@@ -18,18 +18,6 @@ abbrev μ-loop : tie.MeasureT-loop
 loop-holds : tie.Need-loop-holds Inv-loop μ-loop
 loop-holds c = (omega arith, refl, sym (scaledTo-none (c .args .scale) (c .args .v .now) (c .args .p .now)))
 
-mul-x : tie.Need-mul-x Inv-loop μ-loop
-mul-x c = omega arith
-
-slice-read-x : tie.Need-slice-read-x Inv-loop μ-loop
-slice-read-x c = omega arith
-
-mul-moved : tie.Need-mul-moved Inv-loop μ-loop
-mul-moved c = omega arith
-
-shared-slice-read-moved : tie.Need-shared-slice-read-moved Inv-loop μ-loop
-shared-slice-read-moved c = omega arith
-
 cast-moved : tie.Need-cast-moved Inv-loop μ-loop
 cast-moved c = omega (arith, c .shared-slice-known .given (c .before .before .before .loop .i))
 
@@ -39,21 +27,6 @@ mul-moved-2 c =
     let a = l .before .args in
     let e = ap (λ (x : List ℕ). getD x (l .loop .i) 0) (l .loop .inv .2) ∙ scaledTo-at (a .scale) (l .loop .i) (a .v .now) (a .p .now) (l .before .pre .0) in
     rw e (omega (arith, product-le (a .v .now) (a .p .now) (l .loop .i)))
-
-div-moved : tie.Need-div-moved Inv-loop μ-loop
-div-moved c = omega arith
-
-mul-v : tie.Need-mul-v Inv-loop μ-loop
-mul-v c = omega arith
-
-slice-write-v : tie.Need-slice-write-v Inv-loop μ-loop
-slice-write-v c = omega arith
-
-add-i : tie.Need-add-i Inv-loop μ-loop
-add-i c = omega arith
-
-loop-less : tie.Need-loop-less Inv-loop μ-loop
-loop-less c = simp length-set (omega arith)
 
 loop-again : tie.Need-loop-again Inv-loop μ-loop
 loop-again c =
@@ -67,9 +40,6 @@ loop-again c =
       rw (e, l .loop .inv .2, add-one) (scaledTo-step (a .scale) i (a .v .now) (a .p .now) h (l .before .pre .0)),
     )
 
-same-length : tie.Need-same-length Inv-loop μ-loop
-same-length c = c .before .loop .inv .1
-
 returns : tie.Need-returns Inv-loop μ-loop
 returns c =
     let l = c .before in
@@ -79,21 +49,6 @@ returns c =
 pub rescale-spec : {M : Type 1} → statement M
 rescale-spec =
     tie.close
-    (tie.spec
-    Inv-loop
-    μ-loop
-    loop-holds
-    mul-x
-    slice-read-x
-    mul-moved
-    shared-slice-read-moved
-    cast-moved
-    mul-moved-2
-    div-moved
-    mul-v
-    slice-write-v
-    add-i
-    loop-less
-    loop-again
-    same-length
-    returns)
+    (tie.spec Inv-loop μ-loop loop-holds (λ c. omega arith) (λ c. omega arith) (λ c. omega arith) (λ c. omega arith) cast-moved mul-moved-2
+    (λ c. omega arith) (λ c. omega arith) (λ c. omega arith) (λ c. omega arith) (λ c. simp length-set (omega arith)) loop-again
+    (λ c. c .before .loop .inv .1) returns)

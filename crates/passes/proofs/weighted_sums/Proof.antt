@@ -4,7 +4,7 @@ use mathlib.Core.Path.{_≡_}
 use Prim.Native.Nat.{_+_, _-_, _≤_, _<_}
 use lib.ListN.{length, drop}
 use Rattle.rules.specs.Lists.{sum, products}
-use Rattle.passes.proofs.Lists.{sum-step, sum-end, products-step, products-end}
+use Rattle.rules.proofs.Lists.{sum-step, sum-end, products-step, products-end}
 use Rattle.passes.proofs.weighted_sums.Statement.{statement}
 use Rattle.passes.proofs.weighted_sums.Tie as tie
 
@@ -14,25 +14,10 @@ Inv-loop v p total₀ acc₀ i₀ total acc i = (i ≤ length v) × (total + sum
 abbrev μ-loop : tie.MeasureT-loop
 μ-loop v p total₀ acc₀ i₀ total acc i = length v - i
 
-loop-holds : tie.Need-loop-holds Inv-loop μ-loop
-loop-holds c = omega arith
-
-mul-x : tie.Need-mul-x Inv-loop μ-loop
-mul-x c = omega arith
-
-shared-slice-read-x : tie.Need-shared-slice-read-x Inv-loop μ-loop
-shared-slice-read-x c = omega arith
-
 add-total : tie.Need-add-total Inv-loop μ-loop
 add-total c =
     let l = c .before .before in
     omega (arith, sum-step (l .before .args .v .now) (l .loop .i) (c .before .loop-test .taken))
-
-mul-acc : tie.Need-mul-acc Inv-loop μ-loop
-mul-acc c = omega arith
-
-shared-slice-read-acc : tie.Need-shared-slice-read-acc Inv-loop μ-loop
-shared-slice-read-acc c = omega arith
 
 cast-acc : tie.Need-cast-acc Inv-loop μ-loop
 cast-acc c = omega (arith, c .shared-slice-known2 .given (c .before .before .before .loop .i))
@@ -48,12 +33,6 @@ add-acc c =
     let l = c .before .before .before in
     let a = l .before .args in
     omega (arith, products-step (a .v .now) (a .p .now) (l .loop .i) (omega arith) (omega arith))
-
-add-i : tie.Need-add-i Inv-loop μ-loop
-add-i c = omega arith
-
-loop-less : tie.Need-loop-less Inv-loop μ-loop
-loop-less c = omega arith
 
 loop-again : tie.Need-loop-again Inv-loop μ-loop
 loop-again c =
@@ -74,19 +53,5 @@ returns c =
 pub weighted-sums-spec : {M : Type 1} → statement M
 weighted-sums-spec =
     tie.close
-    (tie.spec
-    Inv-loop
-    μ-loop
-    loop-holds
-    mul-x
-    shared-slice-read-x
-    add-total
-    mul-acc
-    shared-slice-read-acc
-    cast-acc
-    mul-acc-2
-    add-acc
-    add-i
-    loop-less
-    loop-again
-    returns)
+    (tie.spec Inv-loop μ-loop (λ c. omega arith) (λ c. omega arith) (λ c. omega arith) add-total (λ c. omega arith) (λ c. omega arith) cast-acc
+    mul-acc-2 add-acc (λ c. omega arith) (λ c. omega arith) loop-again returns)

@@ -7,15 +7,6 @@ use borrow.Author.Needs.{needs}
 use Rattle.rotation.proofs.rotate.Statement.{statement}
 use Rattle.rotation.proofs.rotate.Tie as tie
 
-judge-requires : tie.Need-judge-requires
-judge-requires c κs = search needs
-
-enum-known-verdict : tie.Need-enum-known-verdict
-enum-known-verdict c = search needs
-
-enum-told : tie.Need-enum-told
-enum-told c = search needs
-
 turn-requires : tie.Need-turn-requires
 turn-requires c κs = sym (c .before .before .before .judge .ensures) ∙ ap verdictOf (c .before .enum-told .given .1)
 
@@ -27,20 +18,9 @@ returns c =
     let is = refused-early _ _ _ _ _ (a .leavers .now) why early in
     (sym (answer-refused _ _ _ _ _ (a .leavers .now) why is), whole-holds _ _ (leavers-refused _ _ _ _ _ (a .leavers .now) why is))
 
-same-length : tie.Need-same-length
-same-length c = search needs
-
 returns-2 : tie.Need-returns-2
 returns-2 c = (c .before .before .turn .ensures .0, written-holds _ _ _ (c .before .before .turn .ensures .1))
 
 pub rotate-spec : {M : Type 1} → statement M
 rotate-spec =
-    tie.close
-    (tie.spec
-    judge-requires
-    enum-known-verdict
-    enum-told
-    turn-requires
-    returns
-    same-length
-    returns-2)
+    tie.close (tie.spec (λ c κs. search needs) (λ c. search needs) (λ c. search needs) turn-requires returns (λ c. search needs) returns-2)

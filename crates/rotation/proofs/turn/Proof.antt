@@ -7,9 +7,9 @@ use lib.ListN.{length}
 use Rattle.rules.specs.Limits.{randomRange}
 use Rattle.rules.specs.Lists.{rising}
 use Rattle.rules.specs.TakeAll.{frame}
+use Rattle.rules.specs.Rotation.{required}
 use Rattle.frame.proofs.Accepted.{Accepted}
 use Rattle.oldpanel.proofs.Refusals.{OldPassed}
-use Rattle.rules.specs.Rotation.{required}
 use Rattle.group.specs.Group.{rulesGroup}
 use Rattle.members.proofs.Held.{hold-most}
 use Rattle.leavers.specs.Leaving.{firstStep}
@@ -40,9 +40,6 @@ old-ok st =
 
 find-group-requires : tie.Need-find-group-requires
 find-group-requires c κs = frame-sized _ _ _ (frame-ok (c .before .before .before .before .before))
-
-slice-aggregate-fill : tie.Need-slice-aggregate-fill
-slice-aggregate-fill c = search needs
 
 fill-requires : tie.Need-fill-requires
 fill-requires c κs =
@@ -100,9 +97,6 @@ write-numbers-requires c κs =
     let fewer = left-fewer (a .numbers .now) (a .turnovers .now) (a .randoms .now) (a .z) (a .old) (a .panel .now) (a .fraction) (a .leavers .now) (st .pre) (c .before .before .before .before .before .before .before .before .before .before .before .before .find-group .result) (c .before .before .before .before .before .before .before .before .before .before .before .before .find-group .ensures) (c .before .before .before .before .before .before .before .before .members .result) (c .before .before .before .before .before .before .before .before .members .ensures .0) (c .before .before .before .start-at .result) (c .before .find-leavers .result) (c .before .find-leavers .ensures) in
     (within, omega (arith, fewer, c .before .before .before .before .before .before .before .before .members .ensures .1, old-ok st .long))
 
-same-length : tie.Need-same-length
-same-length c = search needs
-
 returns-2 : tie.Need-returns-2
 returns-2 c =
     let st = c .before .before .before .before .before .before .before .before .before .before .before .before .before .before .before .before .before .before .before .before .before in
@@ -115,18 +109,5 @@ returns-2 c =
 pub turn-spec : {M : Type 1} → statement M
 turn-spec =
     tie.close
-    (tie.spec
-    find-group-requires
-    slice-aggregate-fill
-    fill-requires
-    members-requires
-    required-requires
-    slice-aggregate-first-step
-    first-step-requires
-    returns
-    start-at-requires
-    slice-aggregate-find-leavers
-    find-leavers-requires
-    write-numbers-requires
-    same-length
-    returns-2)
+    (tie.spec find-group-requires (λ c. search needs) fill-requires members-requires required-requires slice-aggregate-first-step first-step-requires
+    returns start-at-requires slice-aggregate-find-leavers find-leavers-requires write-numbers-requires (λ c. search needs) returns-2)

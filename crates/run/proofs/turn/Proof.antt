@@ -14,36 +14,6 @@ use borrow.Author.Needs.{needs}
 use Rattle.run.proofs.turn.Statement.{statement}
 use Rattle.run.proofs.turn.Tie as tie
 
-offset-requires : tie.Need-offset-requires
-offset-requires c κs = search needs
-
-read-requires : tie.Need-read-requires
-read-requires c κs = search needs
-
-enum-known-reading : tie.Need-enum-known-reading
-enum-known-reading c = search needs
-
-number-requires : tie.Need-number-requires
-number-requires c κs = search needs
-
-refusal-line-requires : tie.Need-refusal-line-requires
-refusal-line-requires c κs = search needs
-
-enum-told : tie.Need-enum-told
-enum-told c = search needs
-
-enum-known-reading-2 : tie.Need-enum-known-reading-2
-enum-known-reading-2 c = search needs
-
-step-requires : tie.Need-step-requires
-step-requires c κs = search needs
-
-continues-requires : tie.Need-continues-requires
-continues-requires c κs = search needs
-
-lay-requires : tie.Need-lay-requires
-lay-requires c κs = search needs
-
 returns : tie.Need-returns
 returns c =
     let a = c .before .before .before .before .before .before .before .before .before .args in
@@ -67,17 +37,5 @@ returns-3 c =
 pub turn-spec : {M : Type 1} → statement M
 turn-spec =
     tie.close
-    (tie.spec
-    offset-requires
-    read-requires
-    enum-known-reading
-    number-requires
-    refusal-line-requires
-    enum-told
-    enum-known-reading-2
-    step-requires
-    continues-requires
-    lay-requires
-    returns
-    returns-2
-    returns-3)
+    (tie.spec (λ c κs. search needs) (λ c κs. search needs) (λ c. search needs) (λ c κs. search needs) (λ c κs. search needs) (λ c. search needs)
+    (λ c. search needs) (λ c κs. search needs) (λ c κs. search needs) (λ c κs. search needs) returns returns-2 returns-3)

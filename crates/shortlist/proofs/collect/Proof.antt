@@ -36,21 +36,6 @@ is-near-requires c κs = reach-low _ _ _ _ _ _ _ (c .before .loop-test .taken) (
 returns : tie.Need-returns Inv-loop μ-loop
 returns c = listed-by _ _ _ _ _ _ _ _ (c .before .before .before .before .before .loop .inv)
 
-mul-units : tie.Need-mul-units Inv-loop μ-loop
-mul-units c = search needs
-
-array-write-units : tie.Need-array-write-units Inv-loop μ-loop
-array-write-units c = search needs
-
-add-count : tie.Need-add-count Inv-loop μ-loop
-add-count c = search needs
-
-add-i : tie.Need-add-i Inv-loop μ-loop
-add-i c = search needs
-
-loop-less : tie.Need-loop-less Inv-loop μ-loop
-loop-less c = search needs
-
 loop-again : tie.Need-loop-again Inv-loop μ-loop
 loop-again c =
     let s = c .before .before .before .before .before .before .before .before in
@@ -65,23 +50,8 @@ loop-again c =
     (λ w. (omega arith, omega (arith, w .2, at .inv .1), ap length (w .1) ∙ at .inv .2, held-same mark (λ k. k) (at .i + 1) _ _ _ _ (w .1) (w .2) (held-not mark (λ k. k) (at .i) (at .units) (at .count) (test ∙ w .0 .left) (at .inv .3))))
     (c .if1 .came)
 
-returns-2 : tie.Need-returns-2 Inv-loop μ-loop
-returns-2 c = listed-by _ _ _ _ _ _ _ _ (c .before .loop .inv)
-
 pub collect-spec : {M : Type 1} → statement M
 collect-spec =
     tie.close
-    (tie.spec
-    Inv-loop
-    μ-loop
-    loop-holds
-    unit-key-requires
-    is-near-requires
-    returns
-    mul-units
-    array-write-units
-    add-count
-    add-i
-    loop-less
-    loop-again
-    returns-2)
+    (tie.spec Inv-loop μ-loop loop-holds unit-key-requires is-near-requires returns (λ c. search needs) (λ c. search needs) (λ c. search needs)
+    (λ c. search needs) (λ c. search needs) loop-again (λ c. listed-by _ _ _ _ _ _ _ _ (c .before .loop .inv)))

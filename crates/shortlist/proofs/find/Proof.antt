@@ -9,32 +9,11 @@ use borrow.Author.Needs.{needs}
 use Rattle.shortlist.proofs.find.Statement.{statement}
 use Rattle.shortlist.proofs.find.Tie as tie
 
-is-worth-requires : tie.Need-is-worth-requires
-is-worth-requires c κs = c .before .before .before .pre
-
-nothing-requires : tie.Need-nothing-requires
-nothing-requires c κs = tt
-
-returns : tie.Need-returns
-returns c = λ h. absurd (not-both _ h (c .nothing .ensures))
-
-collect-requires : tie.Need-collect-requires
-collect-requires c κs = search needs
-
-array-share-prefix-units : tie.Need-array-share-prefix-units
-array-share-prefix-units c = search needs
-
 slice-aggregate-most-numerator : tie.Need-slice-aggregate-most-numerator
 slice-aggregate-most-numerator c = listed-count _ _ _ _ _ _ (c .before .before .collect .ensures)
 
 most-numerator-requires : tie.Need-most-numerator-requires
 most-numerator-requires c κs = (c .before .before .before .before .before .before .before .before .pre .0, listed-placed _ _ _ _ _ _ (c .before .before .collect .ensures))
-
-div-scale : tie.Need-div-scale
-div-scale c = search needs
-
-array-share-prefix-units-2 : tie.Need-array-share-prefix-units-2
-array-share-prefix-units-2 c = search needs
 
 slice-aggregate-parts-of : tie.Need-slice-aggregate-parts-of
 slice-aggregate-parts-of c = listed-count _ _ _ _ _ _ (c .before .before .before .before .collect .ensures)
@@ -42,38 +21,17 @@ slice-aggregate-parts-of c = listed-count _ _ _ _ _ _ (c .before .before .before
 parts-of-requires : tie.Need-parts-of-requires
 parts-of-requires c κs = ((c .before .before .before .before .before .before .before .before .before .before .pre .0, listed-placed _ _ _ _ _ _ (c .before .before .before .before .collect .ensures)), (under-scaled _ _ _ _ _ (c .before .most-numerator .ensures .0) (c .before .most-numerator .ensures .1), omega (arith, listed-count _ _ _ _ _ _ (c .before .before .before .before .collect .ensures), c .before .before .before .before .collect .ensures .few)))
 
-array-share-prefix-parts : tie.Need-array-share-prefix-parts
-array-share-prefix-parts c = search needs
-
 slice-aggregate-nth : tie.Need-slice-aggregate-nth
 slice-aggregate-nth c = omega (arith, length-take (c .before .before .before .before .before .before .collect .result .count) (c .before .parts-of .result), c .before .parts-of .ensures .0, c .before .before .before .before .before .before .collect .ensures .few)
-
-nth-requires : tie.Need-nth-requires
-nth-requires c κs = search needs
-
-array-share-prefix-units-3 : tie.Need-array-share-prefix-units-3
-array-share-prefix-units-3 c = search needs
 
 slice-aggregate-last-unit : tie.Need-slice-aggregate-last-unit
 slice-aggregate-last-unit c = listed-count _ _ _ _ _ _ (c .before .before .before .before .before .before .before .before .collect .ensures)
 
-array-share-prefix-parts-2 : tie.Need-array-share-prefix-parts-2
-array-share-prefix-parts-2 c = search needs
-
 slice-aggregate-last-unit-2 : tie.Need-slice-aggregate-last-unit-2
 slice-aggregate-last-unit-2 c = omega (arith, length-take (c .before .before .before .before .before .before .before .before .before .collect .result .count) (c .before .before .before .before .parts-of .result), c .before .before .before .before .parts-of .ensures .0, c .before .before .before .before .before .before .before .before .before .collect .ensures .few)
 
-last-unit-requires : tie.Need-last-unit-requires
-last-unit-requires c κs = search needs
-
-array-share-prefix-units-4 : tie.Need-array-share-prefix-units-4
-array-share-prefix-units-4 c = search needs
-
 slice-aggregate-is-checked : tie.Need-slice-aggregate-is-checked
 slice-aggregate-is-checked c = listed-count _ _ _ _ _ _ (c .before .before .before .before .before .before .before .before .before .before .before .before .before .collect .ensures)
-
-slice-aggregate-is-checked-2 : tie.Need-slice-aggregate-is-checked-2
-slice-aggregate-is-checked-2 c = search needs
 
 is-checked-requires : tie.Need-is-checked-requires
 is-checked-requires c κs = (c .before .before .before .before .before .before .before .before .before .before .before .before .before .before .before .before .before .before .before .before .pre .0, listed-placed _ _ _ _ _ _ (c .before .before .before .before .before .before .before .before .before .before .before .before .before .before .collect .ensures), omega (arith, listed-count _ _ _ _ _ _ (c .before .before .before .before .before .before .before .before .before .before .before .before .before .before .collect .ensures), c .before .before .before .before .before .before .before .before .before .before .before .before .before .before .collect .ensures .few, c .before .before .before .before .before .before .before .before .before .parts-of .ensures .0))
@@ -83,35 +41,11 @@ returns-2 c =
     λ h.
     is-found _ _ _ _ _ _ (c .before .before .before .before .before .before .before .before .before .before .before .before .before .before .before .collect .ensures) _ _ _ _ _ (c .before .before .before .before .before .before .before .before .before .before .before .before .before .before .before .before .before .before .before .before .before .pre .0) (c .before .before .before .if2 .taken) (c .before .before .before .before .before .before .before .before .before .before .parts-of .ensures .0) (under-scaled _ _ _ _ _ (c .before .before .before .before .before .before .before .before .before .before .before .before .most-numerator .ensures .0) (c .before .before .before .before .before .before .before .before .before .before .before .before .most-numerator .ensures .1)) (c .before .before .before .before .before .before .before .before .before .before .parts-of .ensures .1) (c .is-checked .ensures h) _
 
-returns-3 : tie.Need-returns-3
-returns-3 c = λ h. absurd (not-both false h refl)
-
 pub find-spec : {M : Type 1} → statement M
 find-spec =
     tie.close
-    (tie.spec
-    is-worth-requires
-    nothing-requires
-    returns
-    collect-requires
-    array-share-prefix-units
-    slice-aggregate-most-numerator
-    most-numerator-requires
-    div-scale
-    array-share-prefix-units-2
-    slice-aggregate-parts-of
-    parts-of-requires
-    array-share-prefix-parts
-    slice-aggregate-nth
-    nth-requires
-    array-share-prefix-units-3
-    slice-aggregate-last-unit
-    array-share-prefix-parts-2
-    slice-aggregate-last-unit-2
-    last-unit-requires
-    array-share-prefix-units-4
-    slice-aggregate-is-checked
-    slice-aggregate-is-checked-2
-    is-checked-requires
-    returns-2
-    returns-3)
+    (tie.spec (λ c κs. c .before .before .before .pre) (λ c κs. tt) (λ c. λ h. absurd (not-both _ h (c .nothing .ensures))) (λ c κs. search needs)
+    (λ c. search needs) slice-aggregate-most-numerator most-numerator-requires (λ c. search needs) (λ c. search needs) slice-aggregate-parts-of
+    parts-of-requires (λ c. search needs) slice-aggregate-nth (λ c κs. search needs) (λ c. search needs) slice-aggregate-last-unit (λ c. search needs)
+    slice-aggregate-last-unit-2 (λ c κs. search needs) (λ c. search needs) slice-aggregate-is-checked (λ c. search needs) is-checked-requires
+    returns-2 (λ c. λ h. absurd (not-both false h refl)))

@@ -13,41 +13,16 @@ Inv-loop turnovers randoms gaps start reach i₀ i = 0 ≤ i
 abbrev μ-loop : tie.MeasureT-loop
 μ-loop turnovers randoms gaps start reach i₀ i = length turnovers - i
 
-loop-holds : tie.Need-loop-holds Inv-loop μ-loop
-loop-holds c = omega arith
-
 unit-key-requires : tie.Need-unit-key-requires Inv-loop μ-loop
 unit-key-requires c κs = (c .before .before .before .before .before .pre .0, c .loop-test .taken)
 
 is-near-requires : tie.Need-is-near-requires Inv-loop μ-loop
 is-near-requires c κs = reach-low _ _ _ _ _ _ _ (c .before .loop-test .taken) (c .before .before .before .before .before .before .pre .1) (c .unit-key .ensures)
 
-returns : tie.Need-returns Inv-loop μ-loop
-returns c = tt
-
 add-i : tie.Need-add-i Inv-loop μ-loop
 add-i c = omega (arith, c .before .before .before .loop-test .taken, c .before .before .before .before .before .before .before .before .good)
-
-loop-less : tie.Need-loop-less Inv-loop μ-loop
-loop-less c = search needs
-
-loop-again : tie.Need-loop-again Inv-loop μ-loop
-loop-again c = omega arith
-
-returns-2 : tie.Need-returns-2 Inv-loop μ-loop
-returns-2 c = tt
 
 pub is-worth-spec : {M : Type 1} → statement M
 is-worth-spec =
     tie.close
-    (tie.spec
-    Inv-loop
-    μ-loop
-    loop-holds
-    unit-key-requires
-    is-near-requires
-    returns
-    add-i
-    loop-less
-    loop-again
-    returns-2)
+    (tie.spec Inv-loop μ-loop (λ c. omega arith) unit-key-requires is-near-requires (λ c. tt) add-i (λ c. search needs) (λ c. omega arith) (λ c. tt))

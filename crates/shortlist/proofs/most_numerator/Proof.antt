@@ -37,23 +37,8 @@ Inv-loop turnovers randoms gaps start units most₀ j₀ most j = (j ≤ length 
 abbrev μ-loop : tie.MeasureT-loop
 μ-loop turnovers randoms gaps start units most₀ j₀ most j = length units - j
 
-loop-holds : tie.Need-loop-holds Inv-loop μ-loop
-loop-holds c = (omega arith, omega arith, none _ _ _ _ _)
-
-mul-unit-key : tie.Need-mul-unit-key Inv-loop μ-loop
-mul-unit-key c = search needs
-
-shared-slice-read-unit-key : tie.Need-shared-slice-read-unit-key Inv-loop μ-loop
-shared-slice-read-unit-key c = search needs
-
 unit-key-requires : tie.Need-unit-key-requires Inv-loop μ-loop
 unit-key-requires c κs = (c .before .before .before .before .before .before .before .pre .0, c .before .before .before .before .before .before .before .pre .1 .low (c .before .before .loop .j) (c .before .loop-test .taken))
-
-add-j : tie.Need-add-j Inv-loop μ-loop
-add-j c = search needs
-
-loop-less : tie.Need-loop-less Inv-loop μ-loop
-loop-less c = search needs
 
 loop-again : tie.Need-loop-again Inv-loop μ-loop
 loop-again c =
@@ -71,14 +56,5 @@ returns c = (c .before .loop .inv .1, all _ _ _ _ _ _ (omega arith) (c .before .
 pub most-numerator-spec : {M : Type 1} → statement M
 most-numerator-spec =
     tie.close
-    (tie.spec
-    Inv-loop
-    μ-loop
-    loop-holds
-    mul-unit-key
-    shared-slice-read-unit-key
-    unit-key-requires
-    add-j
-    loop-less
-    loop-again
-    returns)
+    (tie.spec Inv-loop μ-loop (λ c. (omega arith, omega arith, none _ _ _ _ _)) (λ c. search needs) (λ c. search needs) unit-key-requires
+    (λ c. search needs) (λ c. search needs) loop-again returns)

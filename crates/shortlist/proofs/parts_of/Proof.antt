@@ -39,15 +39,6 @@ Inv-loop turnovers randoms gaps start scale units parts₀ j₀ parts j = (j ≤
 abbrev μ-loop : tie.MeasureT-loop
 μ-loop turnovers randoms gaps start scale units parts₀ j₀ parts j = length units - j
 
-loop-holds : tie.Need-loop-holds Inv-loop μ-loop
-loop-holds c = (omega arith, refl, none _ _ _ _ _ _ _)
-
-mul-unit-key : tie.Need-mul-unit-key Inv-loop μ-loop
-mul-unit-key c = search needs
-
-shared-slice-read-unit-key : tie.Need-shared-slice-read-unit-key Inv-loop μ-loop
-shared-slice-read-unit-key c = search needs
-
 unit-key-requires : tie.Need-unit-key-requires Inv-loop μ-loop
 unit-key-requires c κs = (c .before .before .before .before .before .before .before .pre .0 .0, c .before .before .before .before .before .before .before .pre .0 .1 .low (c .before .before .loop .j) (c .before .loop-test .taken))
 
@@ -62,12 +53,6 @@ mul-parts-2 c = omega (arith, c .before .before .before .before .loop-test .take
 
 array-write-parts : tie.Need-array-write-parts Inv-loop μ-loop
 array-write-parts c = omega (arith, c .before .before .before .before .loop-test .taken, c .before .before .before .before .before .before .before .before .before .before .pre .1 .1, c .before .before .before .before .before .loop .inv .1)
-
-add-j : tie.Need-add-j Inv-loop μ-loop
-add-j c = search needs
-
-loop-less : tie.Need-loop-less Inv-loop μ-loop
-loop-less c = search needs
 
 loop-again : tie.Need-loop-again Inv-loop μ-loop
 loop-again c =
@@ -84,18 +69,5 @@ returns c = (c .before .loop .inv .1, all _ _ _ _ _ _ _ _ (omega (arith, c .loop
 pub parts-of-spec : {M : Type 1} → statement M
 parts-of-spec =
     tie.close
-    (tie.spec
-    Inv-loop
-    μ-loop
-    loop-holds
-    mul-unit-key
-    shared-slice-read-unit-key
-    unit-key-requires
-    mul-parts
-    div-parts
-    mul-parts-2
-    array-write-parts
-    add-j
-    loop-less
-    loop-again
-    returns)
+    (tie.spec Inv-loop μ-loop (λ c. (omega arith, refl, none _ _ _ _ _ _ _)) (λ c. search needs) (λ c. search needs) unit-key-requires mul-parts
+    div-parts mul-parts-2 array-write-parts (λ c. search needs) (λ c. search needs) loop-again returns)

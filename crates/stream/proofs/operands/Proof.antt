@@ -79,21 +79,5 @@ returns-7 c =
 pub operands-spec : {M : Type 1} → statement M
 operands-spec =
     tie.close
-    (tie.spec
-    word-requires
-    two-words-requires
-    word-requires-2
-    shared-slice-read-t8
-    word-requires-3
-    shared-slice-read-t11
-    two-bytes-requires
-    shared-slice-read-t14
-    word-requires-4
-    two-words-requires-2
-    returns
-    returns-2
-    returns-3
-    returns-4
-    returns-5
-    returns-6
-    returns-7)
+    (tie.spec word-requires two-words-requires word-requires-2 shared-slice-read-t8 word-requires-3 shared-slice-read-t11 two-bytes-requires
+    shared-slice-read-t14 word-requires-4 two-words-requires-2 returns returns-2 returns-3 returns-4 returns-5 returns-6 returns-7)

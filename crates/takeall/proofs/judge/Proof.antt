@@ -2,27 +2,18 @@
 use mathlib.Core.Path.{sym, _∙_}
 use borrow.Author.Needs.{needs}
 use borrow.Author.Tests.{lt-ltb, le-ltb}
-use Rattle.rules.specs.Tests.{refuse}
+use Rattle.rules.specs.Refusals.{refuse, _then_}
 use Rattle.rules.specs.TakeAll.{takeAllRefusal}
 use Rattle.takeall.proofs.judge.Statement.{statement}
 use Rattle.takeall.proofs.judge.Tie as tie
-
-bad-count-requires : tie.Need-bad-count-requires
-bad-count-requires c κs = search needs
 
 returns : tie.Need-returns
 unfolding takeAllRefusal refuse
 returns c = rw (sym (c .before .bad-count .ensures) ∙ c .if1 .taken)
 
-bad-turnovers-requires : tie.Need-bad-turnovers-requires
-bad-turnovers-requires c κs = search needs
-
 returns-2 : tie.Need-returns-2
 unfolding takeAllRefusal refuse
 returns-2 c = rw (sym (c .before .before .before .bad-count .ensures) ∙ c .before .before .if1 .left, sym (c .before .bad-turnovers .ensures) ∙ c .if2 .taken)
-
-bad-size-requires : tie.Need-bad-size-requires
-bad-size-requires c κs = search needs
 
 returns-3 : tie.Need-returns-3
 unfolding takeAllRefusal refuse
@@ -38,13 +29,4 @@ returns-5 c = rw (sym (c .before .before .before .before .before .before .bad-co
 
 pub judge-spec : {M : Type 1} → statement M
 judge-spec =
-    tie.close
-    (tie.spec
-    bad-count-requires
-    returns
-    bad-turnovers-requires
-    returns-2
-    bad-size-requires
-    returns-3
-    returns-4
-    returns-5)
+    tie.close (tie.spec (λ c κs. search needs) returns (λ c κs. search needs) returns-2 (λ c κs. search needs) returns-3 returns-4 returns-5)

@@ -34,18 +34,6 @@ loop-holds c = (omega arith, refl, refl)
 takes-all-requires : tie.Need-takes-all-requires Inv-loop μ-loop
 takes-all-requires c κs = (c .loop-test .taken, c .before .before .before .before .pre .1)
 
-slice-write-marks : tie.Need-slice-write-marks Inv-loop μ-loop
-slice-write-marks c = search needs
-
-slice-write-marks-2 : tie.Need-slice-write-marks-2 Inv-loop μ-loop
-slice-write-marks-2 c = search needs
-
-add-i : tie.Need-add-i Inv-loop μ-loop
-add-i c = search needs
-
-loop-less : tie.Need-loop-less Inv-loop μ-loop
-loop-less c = search needs
-
 loop-again : tie.Need-loop-again Inv-loop μ-loop
 loop-again c =
     let s = c .before .before .before .before .before .before in
@@ -57,9 +45,6 @@ loop-again c =
     (λ w. (omega arith, w .1 ∙ store (a .turnovers .now) (a .marks .now) (at .marks) (a .g .q) (at .i) 0 (at .inv .1) l (sym (ap (λ (b : Bool). cond b 1 0) (sym (c .before .takes-all .ensures) ∙ w .0 .left))), ap length (w .1) ∙ simp length-set (at .inv .2)))
     (c .if1 .came)
 
-same-length : tie.Need-same-length Inv-loop μ-loop
-same-length c = search needs
-
 returns : tie.Need-returns Inv-loop μ-loop
 returns c =
     let a = c .before .before .before .before .args in
@@ -69,15 +54,5 @@ returns c =
 pub mark-spec : {M : Type 1} → statement M
 mark-spec =
     tie.close
-    (tie.spec
-    Inv-loop
-    μ-loop
-    loop-holds
-    takes-all-requires
-    slice-write-marks
-    slice-write-marks-2
-    add-i
-    loop-less
-    loop-again
-    same-length
-    returns)
+    (tie.spec Inv-loop μ-loop loop-holds takes-all-requires (λ c. search needs) (λ c. search needs) (λ c. search needs) (λ c. search needs) loop-again
+    (λ c. search needs) returns)

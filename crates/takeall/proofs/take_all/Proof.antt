@@ -14,15 +14,6 @@ accepted : (c : tie.After-enum-told) →
     takeAllRefusal (a .turnovers .now) (a .z) (a .marks .now) ≡ 0
 accepted c = sym (c .before .before .judge .ensures) ∙ ap verdictOf (c .enum-told .given .1)
 
-judge-requires : tie.Need-judge-requires
-judge-requires c κs = search needs
-
-enum-known-verdict : tie.Need-enum-known-verdict
-enum-known-verdict c = search needs
-
-enum-told : tie.Need-enum-told
-enum-told c = search needs
-
 find-group-requires : tie.Need-find-group-requires
 find-group-requires c κs =
     let a = c .before .before .before .before .before .before .args in
@@ -33,18 +24,12 @@ mark-requires c κs =
     let a = c .before .before .before .before .before .before .before .before .args in
     (room (a .turnovers .now) (a .z) (a .marks .now) (accepted (c .before .before)), c .before .find-group .ensures .last-is)
 
-same-length : tie.Need-same-length
-same-length c = search needs
-
 returns : tie.Need-returns
 returns c =
     let a = c .before .before .before .before .before .before .before .args in
     let why = c .before .verdict .given .0 .0 in
     let e : takeAllRefusal (a .turnovers .now) (a .z) (a .marks .now) ≡ _ = sym (c .before .before .before .judge .ensures) ∙ ap verdictOf (c .before .verdict .given .1) in
     (sym (answer-refused (a .turnovers .now) (a .z) (a .marks .now) why e), sym (marks-refused (a .turnovers .now) (a .z) (a .marks .now) why e))
-
-same-length-2 : tie.Need-same-length-2
-same-length-2 c = search needs
 
 returns-2 : tie.Need-returns-2
 returns-2 c =
@@ -59,13 +44,5 @@ returns-2 c =
 pub take-all-spec : {M : Type 1} → statement M
 take-all-spec =
     tie.close
-    (tie.spec
-    judge-requires
-    enum-known-verdict
-    enum-told
-    find-group-requires
-    mark-requires
-    same-length
-    returns
-    same-length-2
-    returns-2)
+    (tie.spec (λ c κs. search needs) (λ c. search needs) (λ c. search needs) find-group-requires mark-requires (λ c. search needs) returns
+    (λ c. search needs) returns-2)

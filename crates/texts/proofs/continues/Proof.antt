@@ -4,21 +4,6 @@ use Rattle.texts.proofs.Texts.{continues-of}
 use Rattle.texts.proofs.continues.Statement.{statement}
 use Rattle.texts.proofs.continues.Tie as tie
 
-enum-told : tie.Need-enum-told
-enum-told c = search needs
-
-enum-told-2 : tie.Need-enum-told-2
-enum-told-2 c = search needs
-
-enum-told-3 : tie.Need-enum-told-3
-enum-told-3 c = search needs
-
-enum-told-4 : tie.Need-enum-told-4
-enum-told-4 c = search needs
-
-enum-told-5 : tie.Need-enum-told-5
-enum-told-5 c = search needs
-
 returns : tie.Need-returns
 returns c = continues-of (c .before .before .args .stepped) _ (c .enum-told .given .1)
 
@@ -37,14 +22,5 @@ returns-5 c = continues-of (c .before .before .args .stepped) _ (c .enum-told5 .
 pub continues-spec : {M : Type 1} → statement M
 continues-spec =
     tie.close
-    (tie.spec
-    enum-told
-    enum-told-2
-    enum-told-3
-    enum-told-4
-    enum-told-5
-    returns
-    returns-2
-    returns-3
-    returns-4
-    returns-5)
+    (tie.spec (λ c. search needs) (λ c. search needs) (λ c. search needs) (λ c. search needs) (λ c. search needs) returns returns-2 returns-3
+    returns-4 returns-5)

@@ -18,24 +18,6 @@ use Rattle.texts.proofs.lay.Tie as tie
 places : (s : tie.Start) → (length (s .args .stepped .numbers) ≡ mostPanel) × (length (s .args .stepped .job .panel) ≡ mostPanel)
 places s = (search needs, search needs)
 
-enum-known-says : tie.Need-enum-known-says
-enum-known-says c = search needs
-
-number-requires : tie.Need-number-requires
-number-requires c κs = search needs
-
-refusal-line-requires : tie.Need-refusal-line-requires
-refusal-line-requires c κs = search needs
-
-enum-told : tie.Need-enum-told
-enum-told c = search needs
-
-enum-told-2 : tie.Need-enum-told-2
-enum-told-2 c = search needs
-
-within-requires : tie.Need-within-requires
-within-requires c κs = search needs
-
 array-share-prefix-numbers : tie.Need-array-share-prefix-numbers
 array-share-prefix-numbers c = lent-within (c .before .before .before .before .before .before .before .args .stepped .numbers) _ _ mostPanel (places (c .before .before .before .before .before .before .before) .0) (c .before .before .before .within .ensures)
 
@@ -47,21 +29,6 @@ array-share-prefix-weights c = lent-within (c .before .before .before .before .b
 
 slice-aggregate-panel-lines-2 : tie.Need-slice-aggregate-panel-lines-2
 slice-aggregate-panel-lines-2 c = lent-length _ _ _ mostPanel (places (c .before .before .before .before .before .before .before .before .before) .1) (c .before .before .before .before .before .within .ensures)
-
-panel-lines-requires : tie.Need-panel-lines-requires
-panel-lines-requires c κs = search needs
-
-enum-known-says-2 : tie.Need-enum-known-says-2
-enum-known-says-2 c = search needs
-
-quarter-line-requires : tie.Need-quarter-line-requires
-quarter-line-requires c κs = search needs
-
-enum-known-says-3 : tie.Need-enum-known-says-3
-enum-known-says-3 c = search needs
-
-close-line-requires : tie.Need-close-line-requires
-close-line-requires c κs = search needs
 
 returns : tie.Need-returns
 returns c =
@@ -101,24 +68,6 @@ returns-5 c =
 pub lay-spec : {M : Type 1} → statement M
 lay-spec =
     tie.close
-    (tie.spec
-    enum-known-says
-    number-requires
-    refusal-line-requires
-    enum-told
-    enum-told-2
-    within-requires
-    array-share-prefix-numbers
-    slice-aggregate-panel-lines
-    array-share-prefix-weights
-    slice-aggregate-panel-lines-2
-    panel-lines-requires
-    enum-known-says-2
-    quarter-line-requires
-    enum-known-says-3
-    close-line-requires
-    returns
-    returns-2
-    returns-3
-    returns-4
-    returns-5)
+    (tie.spec (λ c. search needs) (λ c κs. search needs) (λ c κs. search needs) (λ c. search needs) (λ c. search needs) (λ c κs. search needs)
+    array-share-prefix-numbers slice-aggregate-panel-lines array-share-prefix-weights slice-aggregate-panel-lines-2 (λ c κs. search needs)
+    (λ c. search needs) (λ c κs. search needs) (λ c. search needs) (λ c κs. search needs) returns returns-2 returns-3 returns-4 returns-5)

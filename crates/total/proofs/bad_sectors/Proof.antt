@@ -23,9 +23,6 @@ returns-3 : tie.Need-returns-3
 unfolding badSectors
 returns-3 c = sym (or-on _ _ (or-on _ _ (or-second _ _ (lt-ltb _ _ (c .if3 .taken)))))
 
-bad-values-requires : tie.Need-bad-values-requires
-bad-values-requires c κs = search needs
-
 returns-4 : tie.Need-returns-4
 unfolding badSectors
 returns-4 c =
@@ -35,4 +32,4 @@ returns-4 c =
     c .bad-values .ensures ∙ sym (ap (λ (b : Bool). b or anyOf badIndex indices) (or-off _ _ lists))
 
 pub bad-sectors-spec : {M : Type 1} → statement M
-bad-sectors-spec = tie.close (tie.spec returns returns-2 returns-3 bad-values-requires returns-4)
+bad-sectors-spec = tie.close (tie.spec returns returns-2 returns-3 (λ c κs. search needs) returns-4)

@@ -10,7 +10,7 @@ use Rattle.rules.specs.Limits.{sectorScale}
 use Rattle.rules.specs.Lists.{sum, anyOf}
 use Rattle.rules.specs.Chain.{badIndex}
 use Rattle.rules.proofs.Tests.{or-second, or-none}
-use Rattle.passes.proofs.Lists.{sum-step, sum-end, one-found, one-next, one-none}
+use Rattle.rules.proofs.Lists.{sum-step, sum-end, one-found, one-next, one-none}
 use Rattle.total.proofs.bad_values.Statement.{statement}
 use Rattle.total.proofs.bad_values.Tie as tie
 
@@ -20,41 +20,17 @@ Inv-loop shares indices added₀ i₀ added i = (i ≤ length shares) × (added 
 abbrev μ-loop : tie.MeasureT-loop
 μ-loop shares indices added₀ i₀ added i = length shares - i
 
-loop-holds : tie.Need-loop-holds Inv-loop μ-loop
-loop-holds c = (omega arith, omega arith, omega arith, refl)
-
-mul-bad-index : tie.Need-mul-bad-index Inv-loop μ-loop
-mul-bad-index c = omega arith
-
-shared-slice-read-bad-index : tie.Need-shared-slice-read-bad-index Inv-loop μ-loop
-shared-slice-read-bad-index c = omega arith
-
-bad-index-requires : tie.Need-bad-index-requires Inv-loop μ-loop
-bad-index-requires c κs = search needs
-
 returns : tie.Need-returns Inv-loop μ-loop
 returns c =
     let a = c .before .before .before .before .before .before .before .args in
     let l = c .before .before .before .before .loop in
     sym (or-second _ _ (sym (one-found badIndex (a .indices .now) (l .i) _ (l .inv .3) (omega arith) (sym (c .before .bad-index .ensures) ∙ c .if1 .taken))))
 
-mul-added : tie.Need-mul-added Inv-loop μ-loop
-mul-added c = omega arith
-
-shared-slice-read-added : tie.Need-shared-slice-read-added Inv-loop μ-loop
-shared-slice-read-added c = omega arith
-
 cast-added : tie.Need-cast-added Inv-loop μ-loop
 cast-added c = omega (arith, c .shared-slice-known4 .given (c .before .before .before .before .before .loop .i))
 
 add-added : tie.Need-add-added Inv-loop μ-loop
 add-added c = omega (arith, c .shared-slice-known4 .given (c .before .before .before .before .before .loop .i))
-
-add-i : tie.Need-add-i Inv-loop μ-loop
-add-i c = omega arith
-
-loop-less : tie.Need-loop-less Inv-loop μ-loop
-loop-less c = omega arith
 
 loop-again : tie.Need-loop-again Inv-loop μ-loop
 loop-again c =
@@ -76,19 +52,5 @@ returns-2 c =
 pub bad-values-spec : {M : Type 1} → statement M
 bad-values-spec =
     tie.close
-    (tie.spec
-    Inv-loop
-    μ-loop
-    loop-holds
-    mul-bad-index
-    shared-slice-read-bad-index
-    bad-index-requires
-    returns
-    mul-added
-    shared-slice-read-added
-    cast-added
-    add-added
-    add-i
-    loop-less
-    loop-again
-    returns-2)
+    (tie.spec Inv-loop μ-loop (λ c. (omega arith, omega arith, omega arith, refl)) (λ c. omega arith) (λ c. omega arith) (λ c κs. search needs)
+    returns (λ c. omega arith) (λ c. omega arith) cast-added add-added (λ c. omega arith) (λ c. omega arith) loop-again returns-2)

@@ -4,22 +4,19 @@ use mathlib.Core.Path.{sym, ap, _∙_}
 use mathlib.Core.Bool.{Bool}
 use Prim.Native.Nat.{ℕ, _/_}
 use Rattle.rules.specs.Limits.{sectorScale}
-use Rattle.rules.specs.Tests.{refuse}
-use Rattle.rules.specs.Total.{totalOf, totalBy, totalAnswer}
+use Rattle.rules.specs.Refusals.{refuse, judged, _then_}
+use Rattle.rules.specs.Total.{totalOf, totalAnswer}
 use Rattle.total.proofs.Sectors.{sound, products-most}
 use borrow.Author.Needs.{needs}
 use Rattle.total.proofs.total.Statement.{statement}
 use Rattle.total.proofs.total.Tie as tie
-
-bad-sectors-requires : tie.Need-bad-sectors-requires
-bad-sectors-requires c κs = search needs
 
 returns : tie.Need-returns
 unfolding totalAnswer refuse
 returns c =
     let a = c .before .before .before .before .args in
     let e = sym (c .before .bad-sectors .ensures) ∙ c .if1 .taken in
-    sym (ap (λ (b : Bool). totalBy (refuse b 14 0) (totalOf (a .shares .now) (a .indices .now))) e)
+    sym (ap (λ (b : Bool). judged (refuse b 14 0) (totalOf (a .shares .now) (a .indices .now))) e)
 
 weighted-requires : tie.Need-weighted-requires
 weighted-requires c κs =
@@ -32,8 +29,8 @@ unfolding totalAnswer totalOf refuse
 returns-2 c =
     let a = c .before .before .before .before .before .args in
     let e = sym (c .before .before .bad-sectors .ensures) ∙ c .before .if1 .left in
-    ap (λ (n : ℕ). totalBy 0 (n / sectorScale)) (c .weighted .ensures)
-    ∙ sym (ap (λ (b : Bool). totalBy (refuse b 14 0) (totalOf (a .shares .now) (a .indices .now))) e)
+    ap (λ (n : ℕ). judged 0 (n / sectorScale)) (c .weighted .ensures)
+    ∙ sym (ap (λ (b : Bool). judged (refuse b 14 0) (totalOf (a .shares .now) (a .indices .now))) e)
 
 pub total-spec : {M : Type 1} → statement M
-total-spec = tie.close (tie.spec bad-sectors-requires returns weighted-requires returns-2)
+total-spec = tie.close (tie.spec (λ c κs. search needs) returns weighted-requires returns-2)

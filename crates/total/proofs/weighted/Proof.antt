@@ -4,7 +4,7 @@ use mathlib.Core.Path.{_≡_}
 use Prim.Native.Nat.{_+_, _-_, _≤_}
 use lib.ListN.{length, drop}
 use Rattle.rules.specs.Lists.{sum, products}
-use Rattle.passes.proofs.Lists.{products-step, products-end}
+use Rattle.rules.proofs.Lists.{products-step, products-end}
 use Rattle.total.proofs.weighted.Statement.{statement}
 use Rattle.total.proofs.weighted.Tie as tie
 
@@ -14,23 +14,8 @@ Inv-loop shares indices acc₀ i₀ acc i = (i ≤ length shares) × (acc + sum 
 abbrev μ-loop : tie.MeasureT-loop
 μ-loop shares indices acc₀ i₀ acc i = length shares - i
 
-loop-holds : tie.Need-loop-holds Inv-loop μ-loop
-loop-holds c = omega arith
-
-mul-acc : tie.Need-mul-acc Inv-loop μ-loop
-mul-acc c = omega arith
-
-shared-slice-read-acc : tie.Need-shared-slice-read-acc Inv-loop μ-loop
-shared-slice-read-acc c = omega arith
-
 cast-acc : tie.Need-cast-acc Inv-loop μ-loop
 cast-acc c = omega (arith, c .shared-slice-known .given (c .before .before .loop .i))
-
-mul-acc-2 : tie.Need-mul-acc-2 Inv-loop μ-loop
-mul-acc-2 c = omega arith
-
-shared-slice-read-acc-2 : tie.Need-shared-slice-read-acc-2 Inv-loop μ-loop
-shared-slice-read-acc-2 c = omega arith
 
 mul-acc-3 : tie.Need-mul-acc-3 Inv-loop μ-loop
 mul-acc-3 c =
@@ -41,12 +26,6 @@ add-acc : tie.Need-add-acc Inv-loop μ-loop
 add-acc c =
     let a = c .before .before .before .before .args in
     omega (arith, products-step (a .shares .now) (a .indices .now) (c .before .before .before .loop .i) (c .before .before .loop-test .taken) (omega arith))
-
-add-i : tie.Need-add-i Inv-loop μ-loop
-add-i c = omega arith
-
-loop-less : tie.Need-loop-less Inv-loop μ-loop
-loop-less c = omega arith
 
 loop-again : tie.Need-loop-again Inv-loop μ-loop
 loop-again c =
@@ -61,18 +40,5 @@ returns c =
 pub weighted-spec : {M : Type 1} → statement M
 weighted-spec =
     tie.close
-    (tie.spec
-    Inv-loop
-    μ-loop
-    loop-holds
-    mul-acc
-    shared-slice-read-acc
-    cast-acc
-    mul-acc-2
-    shared-slice-read-acc-2
-    mul-acc-3
-    add-acc
-    add-i
-    loop-less
-    loop-again
-    returns)
+    (tie.spec Inv-loop μ-loop (λ c. omega arith) (λ c. omega arith) (λ c. omega arith) cast-acc (λ c. omega arith) (λ c. omega arith) mul-acc-3
+    add-acc (λ c. omega arith) (λ c. omega arith) loop-again returns)

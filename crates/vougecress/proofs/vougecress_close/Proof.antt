@@ -3,7 +3,7 @@ use mathlib.Core.Path.{ap, _∙_}
 use borrow.Author.Tests.{lt-ltb, le-ltb}
 use mathlib.Core.List.{_++_}
 use lib.ListN.{length, drop}
-use Rattle.rules.specs.Chain.{Chain, Call, answerOf, after}
+use Rattle.rules.specs.Chain.{Chain, Call, callAnswer, after}
 use Rattle.boundary.specs.Figures.{figureFrom}
 use Rattle.boundary.specs.Record.{recordPlaces, recordList}
 use Rattle.vougecress.specs.Record.{listAnswer, listAfter}
@@ -17,21 +17,6 @@ returns c =
     let short = lt-ltb (length (c .before .before .before .args .lent .now)) recordPlaces (c .if1 .taken) in
     (rw short, rw short)
 
-load-requires : tie.Need-load-requires
-load-requires c κs = search needs
-
-close-requires : tie.Need-close-requires
-close-requires c κs = search needs
-
-store-requires : tie.Need-store-requires
-store-requires c κs = search needs
-
-figure-of-requires : tie.Need-figure-of-requires
-figure-of-requires c κs = search needs
-
-same-length : tie.Need-same-length
-same-length c = search needs
-
 returns-2 : tie.Need-returns-2
 unfolding listAnswer listAfter
 returns-2 c =
@@ -41,7 +26,7 @@ returns-2 c =
     let a = l .before .before .before .before .before .args in
     let call = Call.close (a .relatives .now) in
     let long = le-ltb (length (a .lent .now)) recordPlaces (l .before .before .if1 .left) in
-    let told = k .close .ensures .0 ∙ ap (λ (r : Chain). answerOf r call) (l .load .ensures) in
+    let told = k .close .ensures .0 ∙ ap (λ (r : Chain). callAnswer r call) (l .load .ensures) in
     let next = k .close .ensures .1 ∙ ap (λ (r : Chain). after r call) (l .load .ensures) in (
       rw long (c .figure-of .ensures ∙ ap figureFrom told),
       rw long (s .store .ensures ∙ ap (λ (r : Chain). recordList r ++ drop recordPlaces (a .lent .now)) next),
@@ -50,11 +35,4 @@ returns-2 c =
 pub vougecress-close-spec : {M : Type 1} → statement M
 vougecress-close-spec =
     tie.close
-    (tie.spec
-    returns
-    load-requires
-    close-requires
-    store-requires
-    figure-of-requires
-    same-length
-    returns-2)
+    (tie.spec returns (λ c κs. search needs) (λ c κs. search needs) (λ c κs. search needs) (λ c κs. search needs) (λ c. search needs) returns-2)

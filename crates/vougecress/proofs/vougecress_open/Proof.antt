@@ -20,24 +20,6 @@ returns c =
     let short = lt-ltb (length (c .before .before .before .before .before .args .lent .now)) recordPlaces (c .if1 .taken) in
     (rw short, rw short)
 
-open-requires : tie.Need-open-requires
-open-requires c κs = search needs
-
-enum-known-answer : tie.Need-enum-known-answer
-enum-known-answer c = search needs
-
-number-requires : tie.Need-number-requires
-number-requires c κs = search needs
-
-cast-result : tie.Need-cast-result
-cast-result c = search needs
-
-enum-told : tie.Need-enum-told
-enum-told c = search needs
-
-store-requires : tie.Need-store-requires
-store-requires c κs = search needs
-
 returns-2 : tie.Need-returns-2
 unfolding openedNumber openedList openAnswer
 returns-2 c =
@@ -47,9 +29,6 @@ returns-2 c =
     let told = sym (ap (λ (x : Opening). openingBy x (recordOf (o .«open» .result .chain))) (c .before .before .answer .given .1)) ∙ o .«open» .ensures .0 in
     let laid = refused-laid (openRefusal (a .weights .now) (a .shares .now) (a .relatives .now) (a .start)) (numberOf (c .before .before .answer .given .0 .0)) (openRecord (a .weights .now) (a .shares .now) (a .relatives .now) (a .start)) (a .lent .now) told in
     (rw long (c .number .ensures ∙ laid .0), rw long (laid .1))
-
-same-length : tie.Need-same-length
-same-length c = search needs
 
 returns-3 : tie.Need-returns-3
 unfolding openedNumber openedList openAnswer
@@ -65,14 +44,5 @@ returns-3 c =
 pub vougecress-open-spec : {M : Type 1} → statement M
 vougecress-open-spec =
     tie.close
-    (tie.spec
-    returns
-    open-requires
-    enum-known-answer
-    number-requires
-    cast-result
-    enum-told
-    store-requires
-    returns-2
-    same-length
-    returns-3)
+    (tie.spec returns (λ c κs. search needs) (λ c. search needs) (λ c κs. search needs) (λ c. search needs) (λ c. search needs) (λ c κs. search needs)
+    returns-2 (λ c. search needs) returns-3)

@@ -2,7 +2,7 @@
 use mathlib.Core.Path.{ap, _∙_}
 use borrow.Author.Tests.{lt-ltb, le-ltb}
 use lib.ListN.{length}
-use Rattle.rules.specs.Chain.{Chain, Call, answerOf}
+use Rattle.rules.specs.Chain.{Chain, Call, callAnswer}
 use Rattle.boundary.specs.Figures.{figureFrom}
 use Rattle.boundary.specs.Record.{recordPlaces}
 use Rattle.vougecress.specs.Record.{listAnswer}
@@ -14,24 +14,15 @@ returns : tie.Need-returns
 unfolding listAnswer
 returns c = rw (lt-ltb (length (c .before .before .before .args .lent .now)) recordPlaces (c .if1 .taken))
 
-load-requires : tie.Need-load-requires
-load-requires c κs = search needs
-
-quarter-requires : tie.Need-quarter-requires
-quarter-requires c κs = search needs
-
-figure-of-requires : tie.Need-figure-of-requires
-figure-of-requires c κs = search needs
-
 returns-2 : tie.Need-returns-2
 unfolding listAnswer
 returns-2 c =
     let l = c .before .before in
     let a = l .before .before .before .before .args in
     let call = Call.quarter (a .relatives .now) in
-    let told = c .before .quarter .ensures .0 ∙ ap (λ (r : Chain). answerOf r call) (l .load .ensures) in
+    let told = c .before .quarter .ensures .0 ∙ ap (λ (r : Chain). callAnswer r call) (l .load .ensures) in
     rw (le-ltb (length (a .lent .now)) recordPlaces (l .before .if1 .left)) (c .figure-of .ensures ∙ ap figureFrom told)
 
 pub vougecress-quarter-spec : {M : Type 1} → statement M
 vougecress-quarter-spec =
-    tie.close (tie.spec returns load-requires quarter-requires figure-of-requires returns-2)
+    tie.close (tie.spec returns (λ c κs. search needs) (λ c κs. search needs) (λ c κs. search needs) returns-2)

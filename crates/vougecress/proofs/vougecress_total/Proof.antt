@@ -7,21 +7,6 @@ use borrow.Author.Needs.{needs}
 use Rattle.vougecress.proofs.vougecress_total.Statement.{statement}
 use Rattle.vougecress.proofs.vougecress_total.Tie as tie
 
-total-requires : tie.Need-total-requires
-total-requires c κs = search needs
-
-enum-known-answer : tie.Need-enum-known-answer
-enum-known-answer c = search needs
-
-enum-known-answer-2 : tie.Need-enum-known-answer-2
-enum-known-answer-2 c = search needs
-
-number-requires : tie.Need-number-requires
-number-requires c κs = search needs
-
-cast-t8 : tie.Need-cast-t8
-cast-t8 c = search needs
-
 returns : tie.Need-returns
 returns c =
     sym (ap (λ (a : TotalAnswer). sumFrom (totalFrom a)) (c .before .answer .given .1))
@@ -36,11 +21,4 @@ returns-2 c =
 pub vougecress-total-spec : {M : Type 1} → statement M
 vougecress-total-spec =
     tie.close
-    (tie.spec
-    total-requires
-    enum-known-answer
-    enum-known-answer-2
-    number-requires
-    cast-t8
-    returns
-    returns-2)
+    (tie.spec (λ c κs. search needs) (λ c. search needs) (λ c. search needs) (λ c κs. search needs) (λ c. search needs) returns returns-2)

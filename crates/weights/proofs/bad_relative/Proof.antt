@@ -7,18 +7,6 @@ use borrow.Author.Needs.{needs}
 use Rattle.weights.proofs.bad_relative.Statement.{statement}
 use Rattle.weights.proofs.bad_relative.Tie as tie
 
-returns : tie.Need-returns
-returns c = sym (relative-absent _ _ (c .if1 .taken))
-
-new-requires : tie.Need-new-requires
-new-requires c κs = search needs
-
-enum-told : tie.Need-enum-told
-enum-told c = search needs
-
-enum-told-2 : tie.Need-enum-told-2
-enum-told-2 c = search needs
-
 returns-2 : tie.Need-returns-2
 returns-2 c =
     let a = c .before .before .before .before .args in
@@ -37,4 +25,4 @@ returns-3 c =
 
 pub bad-relative-spec : {M : Type 1} → statement M
 bad-relative-spec =
-    tie.close (tie.spec returns new-requires enum-told enum-told-2 returns-2 returns-3)
+    tie.close (tie.spec (λ c. sym (relative-absent _ _ (c .if1 .taken))) (λ c κs. search needs) (λ c. search needs) (λ c. search needs) returns-2 returns-3)

@@ -11,72 +11,6 @@ use Rattle.boundary.proofs.reads.command_read.Tie as tie
 read-of : {x y : Command} (taken : ℕ) → x ≡ y → commandRead (commandFrom y) taken ≡ commandRead (commandFrom x) taken
 read-of taken e = ap (λ (command : Command). commandRead (commandFrom command) taken) (sym e)
 
-enum-known-command : tie.Need-enum-known-command
-enum-known-command c = search needs
-
-cast-with-operands : tie.Need-cast-with-operands
-cast-with-operands c = search needs
-
-cast-with-operands-2 : tie.Need-cast-with-operands-2
-cast-with-operands-2 c = search needs
-
-with-operands-requires : tie.Need-with-operands-requires
-with-operands-requires c κs = search needs
-
-enum-known-command-2 : tie.Need-enum-known-command-2
-enum-known-command-2 c = search needs
-
-cast-with-operands-3 : tie.Need-cast-with-operands-3
-cast-with-operands-3 c = search needs
-
-cast-with-operands-4 : tie.Need-cast-with-operands-4
-cast-with-operands-4 c = search needs
-
-with-operands-requires-2 : tie.Need-with-operands-requires-2
-with-operands-requires-2 c κs = search needs
-
-enum-known-command-3 : tie.Need-enum-known-command-3
-enum-known-command-3 c = search needs
-
-cast-with-operands-5 : tie.Need-cast-with-operands-5
-cast-with-operands-5 c = search needs
-
-cast-with-operands-6 : tie.Need-cast-with-operands-6
-cast-with-operands-6 c = search needs
-
-with-operands-requires-3 : tie.Need-with-operands-requires-3
-with-operands-requires-3 c κs = search needs
-
-enum-known-command-4 : tie.Need-enum-known-command-4
-enum-known-command-4 c = search needs
-
-cast-with-operands-7 : tie.Need-cast-with-operands-7
-cast-with-operands-7 c = search needs
-
-cast-with-operands-8 : tie.Need-cast-with-operands-8
-cast-with-operands-8 c = search needs
-
-with-operands-requires-4 : tie.Need-with-operands-requires-4
-with-operands-requires-4 c κs = search needs
-
-enum-known-command-5 : tie.Need-enum-known-command-5
-enum-known-command-5 c = search needs
-
-with-operands-requires-5 : tie.Need-with-operands-requires-5
-with-operands-requires-5 c κs = search needs
-
-enum-told : tie.Need-enum-told
-enum-told c = search needs
-
-with-operands-requires-6 : tie.Need-with-operands-requires-6
-with-operands-requires-6 c κs = search needs
-
-enum-told-2 : tie.Need-enum-told-2
-enum-told-2 c = search needs
-
-with-operands-requires-7 : tie.Need-with-operands-requires-7
-with-operands-requires-7 c κs = search needs
-
 returns : tie.Need-returns
 returns c = c .with-operands .ensures ∙ read-of (c .before .before .before .before .args .taken) (c .before .before .command .given .1)
 
@@ -101,33 +35,7 @@ returns-7 c = c .with-operands7 .ensures ∙ read-of (c .before .before .before 
 pub command-read-spec : {M : Type 1} → statement M
 command-read-spec =
     tie.close
-    (tie.spec
-    enum-known-command
-    cast-with-operands
-    cast-with-operands-2
-    with-operands-requires
-    enum-known-command-2
-    cast-with-operands-3
-    cast-with-operands-4
-    with-operands-requires-2
-    enum-known-command-3
-    cast-with-operands-5
-    cast-with-operands-6
-    with-operands-requires-3
-    enum-known-command-4
-    cast-with-operands-7
-    cast-with-operands-8
-    with-operands-requires-4
-    enum-known-command-5
-    with-operands-requires-5
-    enum-told
-    with-operands-requires-6
-    enum-told-2
-    with-operands-requires-7
-    returns
-    returns-2
-    returns-3
-    returns-4
-    returns-5
-    returns-6
-    returns-7)
+    (tie.spec (λ c. search needs) (λ c. search needs) (λ c. search needs) (λ c κs. search needs) (λ c. search needs) (λ c. search needs)
+    (λ c. search needs) (λ c κs. search needs) (λ c. search needs) (λ c. search needs) (λ c. search needs) (λ c κs. search needs) (λ c. search needs)
+    (λ c. search needs) (λ c. search needs) (λ c κs. search needs) (λ c. search needs) (λ c κs. search needs) (λ c. search needs)
+    (λ c κs. search needs) (λ c. search needs) (λ c κs. search needs) returns returns-2 returns-3 returns-4 returns-5 returns-6 returns-7)

@@ -3,8 +3,5 @@ use mathlib.Core.Path.{refl}
 use Rattle.boundary.proofs.reads.nothing_read.Statement.{statement}
 use Rattle.boundary.proofs.reads.nothing_read.Tie as tie
 
-returns : tie.Need-returns
-returns c = refl
-
 pub nothing-read-spec : {M : Type 1} → statement M
-nothing-read-spec = tie.close (tie.spec returns)
+nothing-read-spec = tie.close (tie.spec (λ c. refl))

@@ -8,30 +8,6 @@ use borrow.Author.Needs.{needs}
 use Rattle.boundary.proofs.record.load.Statement.{statement}
 use Rattle.boundary.proofs.record.load.Tie as tie
 
-sub-copy : tie.Need-sub-copy
-sub-copy c = search needs
-
-part-copy-start : tie.Need-part-copy-start
-part-copy-start c = search needs
-
-part-copy-end : tie.Need-part-copy-end
-part-copy-end c = search needs
-
-slice-aggregate-copy : tie.Need-slice-aggregate-copy
-slice-aggregate-copy c = search needs
-
-copy-requires : tie.Need-copy-requires
-copy-requires c κs = search needs
-
-shared-slice-read-t12 : tie.Need-shared-slice-read-t12
-shared-slice-read-t12 c = search needs
-
-shared-slice-read-t14 : tie.Need-shared-slice-read-t14
-shared-slice-read-t14 c = search needs
-
-shared-slice-read-t16 : tie.Need-shared-slice-read-t16
-shared-slice-read-t16 c = search needs
-
 returns : tie.Need-returns
 returns c =
     let l = c .before .before .before .before in
@@ -41,13 +17,5 @@ returns c =
 pub load-spec : {M : Type 1} → statement M
 load-spec =
     tie.close
-    (tie.spec
-    sub-copy
-    part-copy-start
-    part-copy-end
-    slice-aggregate-copy
-    copy-requires
-    shared-slice-read-t12
-    shared-slice-read-t14
-    shared-slice-read-t16
-    returns)
+    (tie.spec (λ c. search needs) (λ c. search needs) (λ c. search needs) (λ c. search needs) (λ c κs. search needs) (λ c. search needs)
+    (λ c. search needs) (λ c. search needs) returns)

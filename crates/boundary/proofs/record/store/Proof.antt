@@ -9,27 +9,6 @@ use borrow.Author.Needs.{needs}
 use Rattle.boundary.proofs.record.store.Statement.{statement}
 use Rattle.boundary.proofs.record.store.Tie as tie
 
-slice-write-lent : tie.Need-slice-write-lent
-slice-write-lent c = search needs
-
-slice-write-lent-2 : tie.Need-slice-write-lent-2
-slice-write-lent-2 c = simp length-set (omega arith)
-
-slice-write-lent-3 : tie.Need-slice-write-lent-3
-slice-write-lent-3 c = simp length-set (omega arith)
-
-slice-aggregate-copy : tie.Need-slice-aggregate-copy
-slice-aggregate-copy c = search needs
-
-sub-copy : tie.Need-sub-copy
-sub-copy c = search needs
-
-part-copy-start : tie.Need-part-copy-start
-part-copy-start c = search needs
-
-part-copy-end : tie.Need-part-copy-end
-part-copy-end c = search needs
-
 copy-requires : tie.Need-copy-requires
 copy-requires c κs =
     let places : length (c .before .before .before .before .args .chain .weights) ≡ mostPanel = search needs in
@@ -49,14 +28,5 @@ returns c =
 pub store-spec : {M : Type 1} → statement M
 store-spec =
     tie.close
-    (tie.spec
-    slice-write-lent
-    slice-write-lent-2
-    slice-write-lent-3
-    slice-aggregate-copy
-    sub-copy
-    part-copy-start
-    part-copy-end
-    copy-requires
-    same-length
-    returns)
+    (tie.spec (λ c. search needs) (λ c. simp length-set (omega arith)) (λ c. simp length-set (omega arith)) (λ c. search needs) (λ c. search needs)
+    (λ c. search needs) (λ c. search needs) copy-requires same-length returns)

@@ -7,7 +7,7 @@ use native.Mathlib.Numerals.{add-one}
 use lib.ListN.{length, take, drop}
 use Rattle.refusals.specs.Number.{numberOf, verdictOf}
 use Rattle.rules.specs.Limits.{mostPanel}
-use Rattle.rules.specs.Chain.{Call, held, callRefusal, figureOf, moved, lateRefusal, refusalOf, accepted, answerOf, after}
+use Rattle.rules.specs.Chain.{Call, held, callInputRefusal, figureOf, moved, figureRefusal, callRefusal, accepted, callAnswer, after}
 use Rattle.passes.specs.WeightRefusal.{weightRefusal}
 use Rattle.figures.specs.Steps.{recordWith, lastRefusal}
 use Rattle.chain.specs.Record.{recordOf}
@@ -16,21 +16,12 @@ use borrow.Author.Needs.{needs}
 use Rattle.chain.proofs.Chain.close.Statement.{statement}
 use Rattle.chain.proofs.Chain.close.Tie as tie
 
-judge-call-requires : tie.Need-judge-call-requires
-judge-call-requires c κs = search needs
-
-enum-known-entry : tie.Need-enum-known-entry
-enum-known-entry c = search needs
-
-enum-told : tie.Need-enum-told
-enum-told c = search needs
-
 figure-requires : tie.Need-figure-requires
 unfolding held
 figure-requires c κs =
     let r = recordOf (c .before .before .before .before .before .before .before .before .before .before .args .t1) in
     let ps = c .before .before .before .before .before .before .before .before .before .before .args .p .now in
-    let e : callRefusal r ps 0 ≡ 0 = sym (c .before .before .before .before .before .judge-call .ensures) ∙ ap verdictOf (c .before .before .before .enum-told .given .1) in
+    let e : callInputRefusal r ps 0 ≡ 0 = sym (c .before .before .before .before .before .judge-call .ensures) ∙ ap verdictOf (c .before .before .before .enum-told .given .1) in
     let places : length (r .weights) ≡ mostPanel = search needs in
     let a = admitted r ps e in
     (units-fit r ps places a, reckonable r ps places a)
@@ -39,7 +30,7 @@ array-borrow-prefix-next : tie.Need-array-borrow-prefix-next
 array-borrow-prefix-next c =
     let r = recordOf (c .before .before .before .before .before .before .before .before .before .before .before .before .args .t1) in
     let ps = c .before .before .before .before .before .before .before .before .before .before .before .before .args .p .now in
-    let e : callRefusal r ps 0 ≡ 0 = sym (c .before .before .before .before .before .before .before .judge-call .ensures) ∙ ap verdictOf (c .before .before .before .before .before .enum-told .given .1) in
+    let e : callInputRefusal r ps 0 ≡ 0 = sym (c .before .before .before .before .before .before .before .judge-call .ensures) ∙ ap verdictOf (c .before .before .before .before .before .enum-told .given .1) in
     let places : length (r .weights) ≡ mostPanel = search needs in
     let a = admitted r ps e in
     units-fit r ps places a
@@ -49,7 +40,7 @@ unfolding held
 slice-aggregate-rescale c =
     let r = recordOf (c .before .before .before .before .before .before .before .before .before .before .before .before .before .args .t1) in
     let ps = c .before .before .before .before .before .before .before .before .before .before .before .before .before .args .p .now in
-    let e : callRefusal r ps 0 ≡ 0 = sym (c .before .before .before .before .before .before .before .before .judge-call .ensures) ∙ ap verdictOf (c .before .before .before .before .before .before .enum-told .given .1) in
+    let e : callInputRefusal r ps 0 ≡ 0 = sym (c .before .before .before .before .before .before .before .before .judge-call .ensures) ∙ ap verdictOf (c .before .before .before .before .before .before .enum-told .given .1) in
     let places : length (r .weights) ≡ mostPanel = search needs in
     let a = admitted r ps e in
     sym (length-held r ps places a)
@@ -59,7 +50,7 @@ unfolding held
 rescale-requires c κs =
     let r = recordOf (c .before .before .before .before .before .before .before .before .before .before .before .before .before .args .t1) in
     let ps = c .before .before .before .before .before .before .before .before .before .before .before .before .before .args .p .now in
-    let e : callRefusal r ps 0 ≡ 0 = sym (c .before .before .before .before .before .before .before .before .judge-call .ensures) ∙ ap verdictOf (c .before .before .before .before .before .before .enum-told .given .1) in
+    let e : callInputRefusal r ps 0 ≡ 0 = sym (c .before .before .before .before .before .before .before .before .judge-call .ensures) ∙ ap verdictOf (c .before .before .before .before .before .before .enum-told .given .1) in
     let places : length (r .weights) ≡ mostPanel = search needs in
     let a = admitted r ps e in
     (length-held r ps places a ∙ sym (a .long), products-fit r ps places a, omega arith)
@@ -69,7 +60,7 @@ unfolding held
 slice-aggregate-judge-close c =
     let r = recordOf (c .before .before .before .before .before .before .before .before .before .before .before .before .before .before .before .before .before .before .before .args .t1) in
     let ps = c .before .before .before .before .before .before .before .before .before .before .before .before .before .before .before .before .before .before .before .args .p .now in
-    let e : callRefusal r ps 0 ≡ 0 = sym (c .before .before .before .before .before .before .before .before .before .before .before .before .before .before .judge-call .ensures) ∙ ap verdictOf (c .before .before .before .before .before .before .before .before .before .before .before .before .enum-told .given .1) in
+    let e : callInputRefusal r ps 0 ≡ 0 = sym (c .before .before .before .before .before .before .before .before .before .before .before .before .before .before .judge-call .ensures) ∙ ap verdictOf (c .before .before .before .before .before .before .before .before .before .before .before .before .enum-told .given .1) in
     let places : length (r .weights) ≡ mostPanel = search needs in
     let a = admitted r ps e in
     let m : c .before .before .before .before .before .rescale .last .0 ≡ moved r ps = c .before .before .before .before .before .rescale .ensures in
@@ -81,7 +72,7 @@ unfolding held
 judge-close-requires c κs =
     let r = recordOf (c .before .before .before .before .before .before .before .before .before .before .before .before .before .before .before .before .before .before .before .args .t1) in
     let ps = c .before .before .before .before .before .before .before .before .before .before .before .before .before .before .before .before .before .before .before .args .p .now in
-    let e : callRefusal r ps 0 ≡ 0 = sym (c .before .before .before .before .before .before .before .before .before .before .before .before .before .before .judge-call .ensures) ∙ ap verdictOf (c .before .before .before .before .before .before .before .before .before .before .before .before .enum-told .given .1) in
+    let e : callInputRefusal r ps 0 ≡ 0 = sym (c .before .before .before .before .before .before .before .before .before .before .before .before .before .before .judge-call .ensures) ∙ ap verdictOf (c .before .before .before .before .before .before .before .before .before .before .before .before .enum-told .given .1) in
     let places : length (r .weights) ≡ mostPanel = search needs in
     let a = admitted r ps e in
     let m : c .before .before .before .before .before .rescale .last .0 ≡ moved r ps = c .before .before .before .before .before .rescale .ensures in
@@ -90,62 +81,56 @@ judge-close-requires c κs =
     let u : r .units ≤ mostPanel = a .sound .most in
     (units-fit r ps places a, omega (arith, n, u))
 
-enum-known-rest : tie.Need-enum-known-rest
-enum-known-rest c = search needs
-
-enum-told-2 : tie.Need-enum-told-2
-enum-told-2 c = search needs
-
 add-count : tie.Need-add-count
 add-count c =
     let r = recordOf (c .before .before .before .before .before .before .before .before .before .before .before .before .before .before .before .before .before .before .before .before .before .before .args .t1) in
     let ps = c .before .before .before .before .before .before .before .before .before .before .before .before .before .before .before .before .before .before .before .before .before .before .args .p .now in
-    let e : callRefusal r ps 0 ≡ 0 = sym (c .before .before .before .before .before .before .before .before .before .before .before .before .before .before .before .before .before .judge-call .ensures) ∙ ap verdictOf (c .before .before .before .before .before .before .before .before .before .before .before .before .before .before .before .enum-told .given .1) in
+    let e : callInputRefusal r ps 0 ≡ 0 = sym (c .before .before .before .before .before .before .before .before .before .before .before .before .before .before .before .before .before .judge-call .ensures) ∙ ap verdictOf (c .before .before .before .before .before .before .before .before .before .before .before .before .before .before .before .enum-told .given .1) in
     let places : length (r .weights) ≡ mostPanel = search needs in
     let a = admitted r ps e in
     omega (arith, a .sound .closes)
 
 returns : tie.Need-returns
-unfolding answerOf after refusalOf weightRefusal
+unfolding callAnswer after callRefusal weightRefusal
 returns c =
     let r = recordOf (c .before .before .before .before .before .before .before .before .args .t1) in
     let ps = c .before .before .before .before .before .before .before .before .args .p .now in
     let why = c .before .entry .given .0 .0 in
-    let e : numberOf why ≡ callRefusal r ps 0 = sym (ap verdictOf (c .before .entry .given .1)) ∙ c .before .before .before .judge-call .ensures in
-    let n : refusalOf r (Call.close ps) ≡ numberOf why = call-stops r ps (weightRefusal (held r) (moved r ps) (lateRefusal r ps)) why e in
+    let e : numberOf why ≡ callInputRefusal r ps 0 = sym (ap verdictOf (c .before .entry .given .1)) ∙ c .before .before .before .judge-call .ensures in
+    let n : callRefusal r (Call.close ps) ≡ numberOf why = call-stops r ps (weightRefusal (held r) (moved r ps) (figureRefusal r ps)) why e in
     (refused-answer _ (figureOf r ps) why n, refused-record _ r (accepted r (Call.close ps)) why n)
 
 returns-2 : tie.Need-returns-2
-unfolding answerOf after refusalOf lateRefusal weightRefusal held
+unfolding callAnswer after callRefusal figureRefusal weightRefusal held
 returns-2 c =
     let r = recordOf (c .before .before .before .before .before .before .before .before .before .before .before .before .before .before .before .before .before .before .before .before .before .before .before .args .t1) in
     let ps = c .before .before .before .before .before .before .before .before .before .before .before .before .before .before .before .before .before .before .before .before .before .before .before .args .p .now in
-    let e : callRefusal r ps 0 ≡ 0 = sym (c .before .before .before .before .before .before .before .before .before .before .before .before .before .before .before .before .before .before .judge-call .ensures) ∙ ap verdictOf (c .before .before .before .before .before .before .before .before .before .before .before .before .before .before .before .before .enum-told .given .1) in
+    let e : callInputRefusal r ps 0 ≡ 0 = sym (c .before .before .before .before .before .before .before .before .before .before .before .before .before .before .before .before .before .before .judge-call .ensures) ∙ ap verdictOf (c .before .before .before .before .before .before .before .before .before .before .before .before .before .before .before .before .enum-told .given .1) in
     let places : length (r .weights) ≡ mostPanel = search needs in
     let a = admitted r ps e in
     let m : c .before .before .before .before .before .before .before .before .before .rescale .last .0 ≡ moved r ps = c .before .before .before .before .before .before .before .before .before .rescale .ensures in
     let next = ap (λ (l : List ℕ). l ++ drop (r .units) (r .weights)) m in
     let front = ap (take (r .units)) next ∙ take-moved r ps places a (drop (r .units) (r .weights)) in
     let rest = ap₂ (λ (l : List ℕ) (f : ℕ). weightRefusal (held r) l (lastRefusal f (r .closes))) front (c .before .before .before .before .before .before .before .before .before .before .before .before .figure .ensures) in
-    let goes = call-goes r ps (weightRefusal (held r) (moved r ps) (lateRefusal r ps)) e ∙ sym rest ∙ sym (c .before .before .before .judge-close .ensures) in
+    let goes = call-goes r ps (weightRefusal (held r) (moved r ps) (figureRefusal r ps)) e ∙ sym rest ∙ sym (c .before .before .before .judge-close .ensures) in
     let why = c .before .rest .given .0 .0 in
-    let n : refusalOf r (Call.close ps) ≡ numberOf why = goes ∙ ap verdictOf (c .before .rest .given .1) in
+    let n : callRefusal r (Call.close ps) ≡ numberOf why = goes ∙ ap verdictOf (c .before .rest .given .1) in
     (refused-answer _ (figureOf r ps) why n, refused-record _ r (accepted r (Call.close ps)) why n)
 
 returns-3 : tie.Need-returns-3
-unfolding answerOf after refusalOf lateRefusal weightRefusal held
+unfolding callAnswer after callRefusal figureRefusal weightRefusal held
 returns-3 c =
     let r = recordOf (c .before .before .before .before .before .before .before .before .before .before .before .before .before .before .before .before .before .before .before .before .before .before .args .t1) in
     let ps = c .before .before .before .before .before .before .before .before .before .before .before .before .before .before .before .before .before .before .before .before .before .before .args .p .now in
-    let e : callRefusal r ps 0 ≡ 0 = sym (c .before .before .before .before .before .before .before .before .before .before .before .before .before .before .before .before .before .judge-call .ensures) ∙ ap verdictOf (c .before .before .before .before .before .before .before .before .before .before .before .before .before .before .before .enum-told .given .1) in
+    let e : callInputRefusal r ps 0 ≡ 0 = sym (c .before .before .before .before .before .before .before .before .before .before .before .before .before .before .before .before .before .judge-call .ensures) ∙ ap verdictOf (c .before .before .before .before .before .before .before .before .before .before .before .before .before .before .before .enum-told .given .1) in
     let places : length (r .weights) ≡ mostPanel = search needs in
     let a = admitted r ps e in
     let m : c .before .before .before .before .before .before .before .before .rescale .last .0 ≡ moved r ps = c .before .before .before .before .before .before .before .before .rescale .ensures in
     let next = ap (λ (l : List ℕ). l ++ drop (r .units) (r .weights)) m in
     let front = ap (take (r .units)) next ∙ take-moved r ps places a (drop (r .units) (r .weights)) in
     let rest = ap₂ (λ (l : List ℕ) (f : ℕ). weightRefusal (held r) l (lastRefusal f (r .closes))) front (c .before .before .before .before .before .before .before .before .before .before .before .figure .ensures) in
-    let goes = call-goes r ps (weightRefusal (held r) (moved r ps) (lateRefusal r ps)) e ∙ sym rest ∙ sym (c .before .before .judge-close .ensures) in
-    let n : refusalOf r (Call.close ps) ≡ 0 = goes ∙ ap verdictOf (c .enum-told2 .given .1) in
+    let goes = call-goes r ps (weightRefusal (held r) (moved r ps) (figureRefusal r ps)) e ∙ sym rest ∙ sym (c .before .before .judge-close .ensures) in
+    let n : callRefusal r (Call.close ps) ≡ 0 = goes ∙ ap verdictOf (c .enum-told2 .given .1) in
     let same = ap₂ (λ (l : List ℕ) (x : ℕ). recordWith l (r .units) x (r .closes + 1)) next (c .before .before .before .before .before .before .before .before .before .before .before .figure .ensures) in
     let count = ap (λ (x : ℕ). recordWith (moved r ps ++ drop (r .units) (r .weights)) (r .units) (figureOf r ps) x) (add-one (r .closes)) in (
       figure-answer _ _ (figureOf r ps) n (c .before .before .before .before .before .before .before .before .before .before .before .figure .ensures),
@@ -155,19 +140,5 @@ returns-3 c =
 pub close-spec : {M : Type 1} → statement M
 close-spec =
     tie.close
-    (tie.spec
-    judge-call-requires
-    enum-known-entry
-    enum-told
-    figure-requires
-    array-borrow-prefix-next
-    slice-aggregate-rescale
-    rescale-requires
-    slice-aggregate-judge-close
-    judge-close-requires
-    enum-known-rest
-    enum-told-2
-    add-count
-    returns
-    returns-2
-    returns-3)
+    (tie.spec (λ c κs. search needs) (λ c. search needs) (λ c. search needs) figure-requires array-borrow-prefix-next slice-aggregate-rescale
+    rescale-requires slice-aggregate-judge-close judge-close-requires (λ c. search needs) (λ c. search needs) add-count returns returns-2 returns-3)

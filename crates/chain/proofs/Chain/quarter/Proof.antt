@@ -4,22 +4,13 @@ use Prim.Native.Nat.{ℕ}
 use lib.ListN.{length}
 use Rattle.refusals.specs.Number.{numberOf, verdictOf}
 use Rattle.rules.specs.Limits.{mostPanel}
-use Rattle.rules.specs.Chain.{Call, held, callRefusal, figureOf, lateRefusal, refusalOf, answerOf, after}
+use Rattle.rules.specs.Chain.{Call, held, callInputRefusal, figureOf, figureRefusal, callRefusal, callAnswer, after}
 use Rattle.figures.specs.Steps.{lastRefusal}
 use Rattle.chain.specs.Record.{recordOf}
 use Rattle.chain.proofs.Calls.{admitted, call-stops, call-goes, units-fit, reckonable, refused-answer, refused-record, figure-answer, figure-record}
 use borrow.Author.Needs.{needs}
 use Rattle.chain.proofs.Chain.quarter.Statement.{statement}
 use Rattle.chain.proofs.Chain.quarter.Tie as tie
-
-judge-call-requires : tie.Need-judge-call-requires
-judge-call-requires c κs = search needs
-
-enum-known-entry : tie.Need-enum-known-entry
-enum-known-entry c = search needs
-
-enum-told : tie.Need-enum-told
-enum-told c = search needs
 
 figure-requires : tie.Need-figure-requires
 unfolding held
@@ -30,57 +21,39 @@ figure-requires c κs =
     let a = admitted r ps (sym (c .before .before .before .before .before .judge-call .ensures) ∙ ap verdictOf (c .before .before .before .enum-told .given .1)) in
     (units-fit r ps places a, reckonable r ps places a)
 
-judge-last-requires : tie.Need-judge-last-requires
-judge-last-requires c κs = search needs
-
-enum-known-last : tie.Need-enum-known-last
-enum-known-last c = search needs
-
-enum-told-2 : tie.Need-enum-told-2
-enum-told-2 c = search needs
-
 returns : tie.Need-returns
-unfolding answerOf after refusalOf
+unfolding callAnswer after callRefusal
 returns c =
     let r = recordOf (c .before .before .before .before .before .before .before .before .args .t1) in
     let ps = c .before .before .before .before .before .before .before .before .args .p .now in
     let why = c .before .entry .given .0 .0 in
-    let e : numberOf why ≡ callRefusal r ps 0 = sym (ap verdictOf (c .before .entry .given .1)) ∙ c .before .before .before .judge-call .ensures in
-    let n : refusalOf r (Call.quarter ps) ≡ numberOf why = call-stops r ps (lateRefusal r ps) why e in
+    let e : numberOf why ≡ callInputRefusal r ps 0 = sym (ap verdictOf (c .before .entry .given .1)) ∙ c .before .before .before .judge-call .ensures in
+    let n : callRefusal r (Call.quarter ps) ≡ numberOf why = call-stops r ps (figureRefusal r ps) why e in
     (refused-answer _ (figureOf r ps) why n, refused-record _ r r why n)
 
 returns-2 : tie.Need-returns-2
-unfolding answerOf after refusalOf lateRefusal held
+unfolding callAnswer after callRefusal figureRefusal held
 returns-2 c =
     let r = recordOf (c .before .before .before .before .before .before .before .before .before .before .before .before .before .before .before .args .t1) in
     let ps = c .before .before .before .before .before .before .before .before .before .before .before .before .before .before .before .args .p .now in
     let why = c .before .last .given .0 .0 in
-    let goes = call-goes r ps (lateRefusal r ps) (sym (c .before .before .before .before .before .before .before .before .before .before .judge-call .ensures) ∙ ap verdictOf (c .before .before .before .before .before .before .before .before .enum-told .given .1)) in
+    let goes = call-goes r ps (figureRefusal r ps) (sym (c .before .before .before .before .before .before .before .before .before .before .judge-call .ensures) ∙ ap verdictOf (c .before .before .before .before .before .before .before .before .enum-told .given .1)) in
     let late = ap (λ (f : ℕ). lastRefusal f (r .closes)) (c .before .before .before .before .figure .ensures) in
-    let n : refusalOf r (Call.quarter ps) ≡ numberOf why = goes ∙ sym late ∙ sym (c .before .before .before .judge-last .ensures) ∙ ap verdictOf (c .before .last .given .1) in
+    let n : callRefusal r (Call.quarter ps) ≡ numberOf why = goes ∙ sym late ∙ sym (c .before .before .before .judge-last .ensures) ∙ ap verdictOf (c .before .last .given .1) in
     (refused-answer _ (figureOf r ps) why n, refused-record _ r r why n)
 
 returns-3 : tie.Need-returns-3
-unfolding answerOf after refusalOf lateRefusal held
+unfolding callAnswer after callRefusal figureRefusal held
 returns-3 c =
     let r = recordOf (c .before .before .before .before .before .before .before .before .before .before .before .before .before .before .args .t1) in
     let ps = c .before .before .before .before .before .before .before .before .before .before .before .before .before .before .args .p .now in
-    let goes = call-goes r ps (lateRefusal r ps) (sym (c .before .before .before .before .before .before .before .before .before .judge-call .ensures) ∙ ap verdictOf (c .before .before .before .before .before .before .before .enum-told .given .1)) in
+    let goes = call-goes r ps (figureRefusal r ps) (sym (c .before .before .before .before .before .before .before .before .before .judge-call .ensures) ∙ ap verdictOf (c .before .before .before .before .before .before .before .enum-told .given .1)) in
     let late = ap (λ (f : ℕ). lastRefusal f (r .closes)) (c .before .before .before .figure .ensures) in
-    let n : refusalOf r (Call.quarter ps) ≡ 0 = goes ∙ sym late ∙ sym (c .before .before .judge-last .ensures) ∙ ap verdictOf (c .enum-told2 .given .1) in
+    let n : callRefusal r (Call.quarter ps) ≡ 0 = goes ∙ sym late ∙ sym (c .before .before .judge-last .ensures) ∙ ap verdictOf (c .enum-told2 .given .1) in
     (figure-answer _ _ (figureOf r ps) n (c .before .before .before .figure .ensures), figure-record _ r r r n refl)
 
 pub quarter-spec : {M : Type 1} → statement M
 quarter-spec =
     tie.close
-    (tie.spec
-    judge-call-requires
-    enum-known-entry
-    enum-told
-    figure-requires
-    judge-last-requires
-    enum-known-last
-    enum-told-2
-    returns
-    returns-2
-    returns-3)
+    (tie.spec (λ c κs. search needs) (λ c. search needs) (λ c. search needs) figure-requires (λ c κs. search needs) (λ c. search needs)
+    (λ c. search needs) returns returns-2 returns-3)

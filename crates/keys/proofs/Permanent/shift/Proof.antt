@@ -5,12 +5,6 @@ use Rattle.rules.specs.Draw.{shifted}
 use Rattle.keys.proofs.Permanent.shift.Statement.{statement}
 use Rattle.keys.proofs.Permanent.shift.Tie as tie
 
-add-t4 : tie.Need-add-t4
-add-t4 c = search needs
-
-sub-t5 : tie.Need-sub-t5
-sub-t5 c = search needs
-
 returns : tie.Need-returns
 unfolding shifted
 returns c = rw (lt-ltb (c .before .before .before .args .self .0) (c .before .before .before .args .start) (c .before .if1 .taken))
@@ -20,4 +14,4 @@ unfolding shifted
 returns-2 c = rw (le-ltb (c .before .before .before .args .self .0) (c .before .before .before .args .start) (c .before .if1 .left))
 
 pub shift-spec : {M : Type 1} → statement M
-shift-spec = tie.close (tie.spec add-t4 sub-t5 returns returns-2)
+shift-spec = tie.close (tie.spec (λ c. search needs) (λ c. search needs) returns returns-2)

@@ -11,9 +11,6 @@ use Rattle.panel.proofs.told.is_sampled.Tie as tie
 is-sampled-requires : tie.Need-is-sampled-requires
 is-sampled-requires c κs = let s = c .before .before .before .before .before .before in (s .pre .0 .0, s .pre .0 .2, s .pre .1 .by-key (not-true _ (c .if1 .taken)), s .pre .0 .1)
 
-returns : tie.Need-returns
-returns c = search needs
-
 mul-if2 : tie.Need-mul-if2
 mul-if2 c = omega (arith, c .before .before .before .before .before .before .pre .0 .1 .room, c .before .before .before .before .before .before .pre .0 .2, c .before .before .before .before .before .before .good)
 
@@ -38,12 +35,4 @@ returns-3 c =
 
 pub is-sampled-spec : {M : Type 1} → statement M
 is-sampled-spec =
-    tie.close
-    (tie.spec
-    is-sampled-requires
-    returns
-    mul-if2
-    shared-slice-read-if2
-    returns-2
-    is-within-requires
-    returns-3)
+    tie.close (tie.spec is-sampled-requires (λ c. search needs) mul-if2 shared-slice-read-if2 returns-2 is-within-requires returns-3)

@@ -9,9 +9,6 @@ use borrow.Author.Needs.{needs}
 use Rattle.panel.proofs.told.tell.Statement.{statement}
 use Rattle.panel.proofs.told.tell.Tie as tie
 
-reach-of-requires : tie.Need-reach-of-requires
-reach-of-requires c κs = c .before .before .before .pre .0 .size-low
-
 add-find : tie.Need-add-find
 add-find c = omega (arith, c .before .before .before .before .before .pre .0 .few, c .before .before .before .before .before .good)
 
@@ -30,9 +27,6 @@ returns c =
       by-key = λ h. absurd (not-both true refl h);
     }
 
-last-sampled-requires : tie.Need-last-sampled-requires
-last-sampled-requires c κs = search needs
-
 returns-2 : tie.Need-returns-2
 returns-2 c =
     record {
@@ -43,5 +37,4 @@ returns-2 c =
 
 pub tell-spec : {M : Type 1} → statement M
 tell-spec =
-    tie.close
-    (tie.spec reach-of-requires add-find find-requires returns last-sampled-requires returns-2)
+    tie.close (tie.spec (λ c κs. c .before .before .before .pre .0 .size-low) add-find find-requires returns (λ c κs. search needs) returns-2)

@@ -36,34 +36,16 @@ loop-holds c = (omega arith, refl, λ k h. absurd (omega (arith, h)))
 takes-all-requires : tie.Need-takes-all-requires Inv-loop μ-loop
 takes-all-requires c κs = (c .loop-test .taken, c .before .before .before .before .pre .1 .last-is)
 
-mul-gaps : tie.Need-mul-gaps Inv-loop μ-loop
-mul-gaps c = search needs
-
 slice-write-gaps : tie.Need-slice-write-gaps Inv-loop μ-loop
 slice-write-gaps c = omega (arith, c .before .before .loop-test .taken, c .before .before .before .loop .inv .1, c .before .before .before .before .before .before .pre .2)
-
-mul-gap : tie.Need-mul-gap Inv-loop μ-loop
-mul-gap c = search needs
-
-shared-slice-read-gap : tie.Need-shared-slice-read-gap Inv-loop μ-loop
-shared-slice-read-gap c = search needs
 
 gap-requires : tie.Need-gap-requires Inv-loop μ-loop
 gap-requires c κs =
     let s = c .before .before .before .before .before .before .before in
     (omega (arith, place-within (s .args .turnovers .now) (c .before .before .before .before .loop .i), s .pre .0 .total), omega (arith, s .pre .0 .most))
 
-mul-gaps-2 : tie.Need-mul-gaps-2 Inv-loop μ-loop
-mul-gaps-2 c = search needs
-
 slice-write-gaps-2 : tie.Need-slice-write-gaps-2 Inv-loop μ-loop
 slice-write-gaps-2 c = omega (arith, c .before .before .before .before .loop-test .taken, c .before .before .before .before .before .loop .inv .1, c .before .before .before .before .before .before .before .before .pre .2)
-
-add-i : tie.Need-add-i Inv-loop μ-loop
-add-i c = search needs
-
-loop-less : tie.Need-loop-less Inv-loop μ-loop
-loop-less c = search needs
 
 loop-again : tie.Need-loop-again Inv-loop μ-loop
 loop-again c =
@@ -76,9 +58,6 @@ loop-again c =
     (λ w. (omega arith, ap length (w .1) ∙ simp length-set (at .inv .1), store ts g (at .gaps) _ (at .i) _ (w .1) (sym (gap-inside ts g (at .i) (sym (c .before .takes-all .ensures) ∙ w .0 .taken))) l (at .inv .2)))
     (λ w. (omega arith, ap length (w .3) ∙ simp length-set (at .inv .1), store ts g (at .gaps) _ (at .i) _ (w .3) (w .2 .ensures ∙ sym (gap-outside ts g (at .i) (sym (c .before .takes-all .ensures) ∙ w .0 .left))) l (at .inv .2)))
     (c .if1 .came)
-
-same-length : tie.Need-same-length Inv-loop μ-loop
-same-length c = search needs
 
 returns : tie.Need-returns Inv-loop μ-loop
 returns c =
@@ -97,20 +76,5 @@ returns c =
 pub fill-spec : {M : Type 1} → statement M
 fill-spec =
     tie.close
-    (tie.spec
-    Inv-loop
-    μ-loop
-    loop-holds
-    takes-all-requires
-    mul-gaps
-    slice-write-gaps
-    mul-gap
-    shared-slice-read-gap
-    gap-requires
-    mul-gaps-2
-    slice-write-gaps-2
-    add-i
-    loop-less
-    loop-again
-    same-length
-    returns)
+    (tie.spec Inv-loop μ-loop loop-holds takes-all-requires (λ c. search needs) slice-write-gaps (λ c. search needs) (λ c. search needs) gap-requires
+    (λ c. search needs) slice-write-gaps-2 (λ c. search needs) (λ c. search needs) loop-again (λ c. search needs) returns)

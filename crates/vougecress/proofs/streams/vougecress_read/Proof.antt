@@ -8,36 +8,6 @@ use borrow.Author.Needs.{needs}
 use Rattle.vougecress.proofs.streams.vougecress_read.Statement.{statement}
 use Rattle.vougecress.proofs.streams.vougecress_read.Tie as tie
 
-taken-requires : tie.Need-taken-requires
-taken-requires c κs = search needs
-
-read-requires : tie.Need-read-requires
-read-requires c κs = search needs
-
-enum-known-reading : tie.Need-enum-known-reading
-enum-known-reading c = search needs
-
-command-read-requires : tie.Need-command-read-requires
-command-read-requires c κs = search needs
-
-enum-told : tie.Need-enum-told
-enum-told c = search needs
-
-nothing-read-requires : tie.Need-nothing-read-requires
-nothing-read-requires c κs = search needs
-
-enum-known-reading-2 : tie.Need-enum-known-reading-2
-enum-known-reading-2 c = search needs
-
-number-requires : tie.Need-number-requires
-number-requires c κs = search needs
-
-cast-nothing-read : tie.Need-cast-nothing-read
-cast-nothing-read c = search needs
-
-nothing-read-requires-2 : tie.Need-nothing-read-requires-2
-nothing-read-requires-2 c κs = search needs
-
 returns : tie.Need-returns
 returns c =
     let told = sym (ap readingFrom (c .before .before .reading .given .1)) ∙ c .before .before .before .before .read .ensures in
@@ -56,17 +26,5 @@ returns-3 c =
 pub vougecress-read-spec : {M : Type 1} → statement M
 vougecress-read-spec =
     tie.close
-    (tie.spec
-    taken-requires
-    read-requires
-    enum-known-reading
-    command-read-requires
-    enum-told
-    nothing-read-requires
-    enum-known-reading-2
-    number-requires
-    cast-nothing-read
-    nothing-read-requires-2
-    returns
-    returns-2
-    returns-3)
+    (tie.spec (λ c κs. search needs) (λ c κs. search needs) (λ c. search needs) (λ c κs. search needs) (λ c. search needs) (λ c κs. search needs)
+    (λ c. search needs) (λ c κs. search needs) (λ c. search needs) (λ c κs. search needs) returns returns-2 returns-3)

@@ -2,8 +2,8 @@
 use borrow.Author.Tests.{eq-eqb, ne-eqb}
 use Rattle.rules.specs.Tests.{_or_}
 use Rattle.rules.specs.Chain.{badUnits}
-use Rattle.weights.proofs.bad_units.Statement.{statement}
-use Rattle.weights.proofs.bad_units.Tie as tie
+use Rattle.limits.proofs.bad_units.Statement.{statement}
+use Rattle.limits.proofs.bad_units.Tie as tie
 
 returns : tie.Need-returns
 unfolding badUnits _or_

@@ -2,8 +2,8 @@
 use borrow.Author.Tests.{lt-ltb, le-ltb}
 use Rattle.rules.specs.Tests.{_or_, outside}
 use Rattle.rules.specs.Chain.{badIndex}
-use Rattle.weights.proofs.index.bad_index.Statement.{statement}
-use Rattle.weights.proofs.index.bad_index.Tie as tie
+use Rattle.limits.proofs.bad_index.Statement.{statement}
+use Rattle.limits.proofs.bad_index.Tie as tie
 
 returns : tie.Need-returns
 unfolding badIndex outside _or_
