@@ -4,9 +4,10 @@ import os
 import re
 import shutil
 import subprocess
+import tempfile
 from pathlib import Path
 
-from proving import TOP, Product, built_archive, can_write, sources
+from proving import TOP, Product, built_archives, can_write, sources
 from system import DONE, NOT_READY, WRONG, Stop, shown
 
 BUILD = TOP / "build"
@@ -83,7 +84,7 @@ def make(say):
     if whole.is_fresh():
         return
     words, source = compiler(), whole.source()
-    archive = built_archive(say)
+    archives = built_archives(say)
     if not can_write():
         raise Stop(NOT_READY, f"{BUILD} is not built from the present sources, and {TOP} cannot be written")
     say("linking libvougecress.so")
@@ -91,7 +92,7 @@ def make(say):
     for old in [*BUILD.glob("libvougecress.*"), whole.stamp]:
         old.unlink(missing_ok=True)
     real, asked, linked = shared_names()
-    shutil.copyfile(archive, BUILD / "libvougecress.a")
+    join(archives, BUILD / "libvougecress.a")
     shutil.copyfile(HEADER, BUILD / "vougecress.h")
     link(words, real, asked)
     (BUILD / asked).symlink_to(real)
@@ -99,6 +100,19 @@ def make(say):
     here = "${pcfiledir}"
     (BUILD / "vougecress.pc").write_text(pkg_config(here, here, here))
     whole.mark(source)
+
+
+def join(archives, whole):
+    """One archive with the object of each; only the functions for C have names outside their object."""
+    if not shutil.which("ar"):
+        raise Stop(NOT_READY, "needs ar, which comes with the C compiler's tools: there is none in PATH")
+    with tempfile.TemporaryDirectory() as folder:
+        for archive in archives:
+            subprocess.run(["ar", "x", str(archive)], cwd=folder, check=True)
+        objects = sorted(path.name for path in Path(folder).iterdir())
+        if len(objects) != len(archives):
+            raise Stop(NOT_READY, f"the archives hold {len(objects)} objects and not one each")
+        subprocess.run(["ar", "rcsD", str(whole), *objects], cwd=folder, check=True)
 
 
 def link(words, real, asked):

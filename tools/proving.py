@@ -31,20 +31,32 @@ def sources():
     return [TOP / "crates.txt", *(path for path in (TOP / "crates").rglob("*") if path.is_file())]
 
 
-def crates_below(crate):
-    """All crates that one rests on, with itself, and those that it names."""
+def dependencies():
+    """Each crate of crates.txt with those that it names."""
     rests_on = {}
     for line in (TOP / "crates.txt").read_text().splitlines():
         name, colon, others = line.split("#")[0].partition(":")
         if colon:
             rests_on[name.strip()] = others.split()
-    found, waiting = set(), [crate]
+    return rests_on
+
+
+def crates_below(crates):
+    """All crates that these rest on, with themselves, and those that they name."""
+    rests_on = dependencies()
+    found, waiting = set(), list(crates)
     while waiting:
         name = waiting.pop()
         if name in rests_on and name not in found:
             found.add(name)
             waiting += rests_on[name]
-    return found, [name for name in rests_on[crate] if name in rests_on]
+    return found, sorted({name for crate in crates for name in rests_on[crate] if name in rests_on} - set(crates))
+
+
+def exporting():
+    """The crates that hold functions for C: each is built into an archive of its own."""
+    folders = [(name, TOP / "crates" / name / "src") for name in dependencies()]
+    return [name for name, folder in folders if any("#[no_mangle]" in path.read_text() for path in folder.rglob("*.rt"))]
 
 
 class Product:
@@ -78,7 +90,7 @@ class Product:
 
 
 PROGRAM = Product(TARGET / "bin" / "chainrun.sources", sources, [TARGET / "bin" / "chainrun"])
-ARCHIVE = Product(TARGET / "staticlib" / "libvougecress.sources", sources, [TARGET / "staticlib" / "libvougecress.a"])
+ARCHIVES = Product(TARGET / "staticlib" / ".sources", sources, [TARGET / "staticlib" / f"lib{name}.a" for name in exporting()])
 
 
 def can_write():
@@ -96,26 +108,27 @@ def built_program(say):
     """The path of chainrun, proved and built now if the sources have changed."""
     can_build = shutil.which("rt") and can_write()
     if not PROGRAM.is_fresh() and (can_build or not PROGRAM.is_newer()):
-        build(say, PROGRAM, "chainrun", [["check", "chainrun"]], "3 minutes")
+        build(say, PROGRAM, ["chainrun"], [["check", "chainrun"]], "3 minutes")
     return PROGRAM.files[0]
 
 
-def built_archive(say):
-    """The path of libvougecress.a, likewise."""
-    if not ARCHIVE.is_fresh():
+def built_archives(say):
+    """The paths of the archives that make up the library, likewise."""
+    if not ARCHIVES.is_fresh():
         # the crates below go first, by themselves, since `rt check` proves several at a time and `rt staticlib` does not
-        _, below = crates_below("vougecress")
-        build(say, ARCHIVE, "vougecress", [["check", *below], ["staticlib", "vougecress"]], "5 minutes")
-    return ARCHIVE.files[0]
+        crates = exporting()
+        _, below = crates_below(crates)
+        build(say, ARCHIVES, crates, [["check", *below], *(["staticlib", name] for name in crates)], "5 minutes")
+    return ARCHIVES.files
 
 
-def build(say, product, crate, commands, time):
+def build(say, product, crates, commands, time):
     """Runs `rt` with each of these commands, one build at a time in this repository."""
     if not shutil.which("rt"):
         raise Stop(NOT_READY, missing_rt())
     if not can_write():
-        raise Stop(NOT_READY, f"{product.files[0].name} is not built from the present sources, and {TOP} cannot be written")
-    total = len(crates_below(crate)[0])
+        raise Stop(NOT_READY, f"{crates[0]} is not built from the present sources, and {TOP} cannot be written")
+    total = len(crates_below(crates)[0])
     TARGET.mkdir(exist_ok=True)
     with open(TARGET / "build.lock", "w") as lock:
         try:
@@ -125,15 +138,15 @@ def build(say, product, crate, commands, time):
             fcntl.flock(lock, fcntl.LOCK_EX)
         if product.is_fresh():
             return
-        say(f"proving and building {crate} from {total} crates (its parts); the first time some {time} on two cores")
+        say(f"proving and building {', '.join(crates)} from {total} crates (its parts); the first time some {time} on two cores")
         source, progress = product.source(), Progress(say, total)
         for words in commands:
-            run_rt(words, progress, product)
+            run_rt(words, progress)
         progress.end()
         product.mark(source)
 
 
-def run_rt(words, progress, product):
+def run_rt(words, progress):
     log = TARGET / "build.log"
     with open(log, "wb") as whole:
         pipes = {"stdin": subprocess.DEVNULL, "stdout": subprocess.PIPE, "stderr": subprocess.STDOUT}
@@ -141,7 +154,8 @@ def run_rt(words, progress, product):
             for line in child.stdout:
                 whole.write(line)
                 progress.take(line.decode("utf-8", "replace"))
-    if child.returncode != 0 or (words[-1] in product.files[0].name and not product.files[0].is_file()):
+    made = TARGET / "staticlib" / f"lib{words[-1]}.a"
+    if child.returncode != 0 or (words[0] == "staticlib" and not made.is_file()):
         progress.end()
         last = log.read_text("utf-8", "replace").splitlines()[-LAST_LINES:]
         shown = "\n".join(f"  {line[:200]}" for line in last)
