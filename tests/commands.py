@@ -63,7 +63,7 @@ def links(folder, names=()):
 class Copy:
     """A copy of what the commands need, in a folder with a space in its name, and a PATH in which `rt` is the stand-in."""
 
-    def __init__(self, folder, rt=True, programs=("gcc", "as", "ld", "nm")):
+    def __init__(self, folder, rt=True, programs=("gcc", "as", "ld", "nm", "ar")):
         self.top = Path(folder) / "my copy"
         self.top.mkdir()
         for name in PARTS:
