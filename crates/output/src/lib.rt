@@ -58,7 +58,7 @@ fn pass(stream: &[u8], out: &mut [u8]) -> usize
         }
         let next = turned.job;
         held = next;
-        let rest = stream::rest(unread);
+        let rest = front::unread(unread);
         unread = rest;
     }
 }

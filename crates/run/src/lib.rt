@@ -31,7 +31,7 @@ pub fn turn(total: usize, s: &[u8], job: Job, text: &mut [u8; TEXT_ROOM]) -> Tur
     ensures { λ r. ⌜ Renders total (now (s .entry)) job r (now (text .entry)) (now (text .exit)) ⌝ }
 {
     let at = offset(total, s.len());
-    let reading = stream::read(s);
+    let reading = front::reading_at(s);
     match reading {
         Reading::Refused(why) => Turned {
             job: job,

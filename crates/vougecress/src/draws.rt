@@ -29,7 +29,7 @@ pub extern "C" fn vougecress_draw(
     ensures { λ _.
         ⌜ now (weights .exit) ≡ drawWeights (frame (now (numbers .entry)) (now (turnovers .entry)) (now (randoms .entry))) z start (now (panel .entry)) (now (weights .entry)) ⌝ }
 {
-    let answer = draw::draw(numbers, turnovers, numbers, z, start, panel, weights);
+    let answer = draw::draw(numbers, turnovers, randoms, z, start, panel, weights);
     match answer {
         draw::Answer::Drawn { n, rest } => Drawn {
             refusal: 0,
@@ -39,7 +39,7 @@ pub extern "C" fn vougecress_draw(
         draw::Answer::Refused(why) => Drawn {
             refusal: why.number() as u32,
             n: 0,
-            rest: 0,
+            rest: 1,
         },
     }
 }

@@ -47,7 +47,7 @@ loop-less c =
     let turned = c .before .before .before .before .before .before .before .before .before in
     let l = turned .before .before .loop in
     let more = sym (turned .turn .ensures .goes) ∙ not-false _ (c .before .before .if1 .left) in
-    omega (arith, ap length (c .rest .ensures), rest-shorter _ (l .unread .now) (jobOf (l .held)) more)
+    omega (arith, ap length (c .unread .ensures), rest-shorter _ (l .unread .now) (jobOf (l .held)) more)
 
 loop-again : tie.Need-loop-again Inv-loop μ-loop
 loop-again c =
@@ -55,7 +55,7 @@ loop-again c =
     let turned = laid .before .before .before in
     let l = turned .before .before .loop in
     again _ _ _ (l .unread .now) (l .held) _ (l .inv) (turned .turn .result) _ _ _ (turned .turn .ensures) (laid .lay .ensures .1) _
-    (c .rest .ensures) (not-false _ (c .before .before .if1 .left)) (laid .lay .ensures .0) (laid .lay .kept .1 .1 .0)
+    (c .unread .ensures) (not-false _ (c .before .before .if1 .left)) (laid .lay .ensures .0) (laid .lay .kept .1 .1 .0)
 
 pub pass-spec : {M : Type 1} → statement M
 pass-spec =

@@ -17,21 +17,21 @@ returns c =
     let at = r .before .offset in
     let line = ap (λ (k : ℕ). refusalLine k (at .result)) (c .before .number .ensures) in
     let l = laid-all lineRoom _ _ _ _ _ line (omega (arith, c .before .before .refusal-line-arg .given)) (c .refusal-line .ensures) in
-    renders _ _ _ _ _ _ _ (at .result) (sym (ap readingFrom (c .before .before .before .before .reading .given .1)) ∙ r .read .ensures) (at .ensures)
+    renders _ _ _ _ _ _ _ (at .result) (sym (ap readingFrom (c .before .before .before .before .reading .given .1)) ∙ r .reading-at .ensures) (at .ensures)
     refl refl refl (l .0) (l .1)
 
 returns-2 : tie.Need-returns-2
 returns-2 c =
     let r = c .before .before in
     let at = r .before .offset in
-    renders _ _ _ _ _ _ _ (at .result) (sym (ap readingFrom (c .enum-told .given .1)) ∙ r .read .ensures) (at .ensures) refl refl refl refl refl
+    renders _ _ _ _ _ _ _ (at .result) (sym (ap readingFrom (c .enum-told .given .1)) ∙ r .reading-at .ensures) (at .ensures) refl refl refl refl refl
 
 returns-3 : tie.Need-returns-3
 returns-3 c =
     let s = c .before .before .before .before in
     let r = s .before .before .before .before in
     let at = r .before .offset in
-    command-renders _ _ _ _ _ _ _ (at .result) (sym (ap readingFrom (s .before .before .reading2 .given .1)) ∙ r .read .ensures) (at .ensures) _
+    command-renders _ _ _ _ _ _ _ (at .result) (sym (ap readingFrom (s .before .before .reading2 .given .1)) ∙ r .reading-at .ensures) (at .ensures) _
     (s .step .ensures) refl (c .before .before .before .continues .ensures) (c .before .lay .ensures)
 
 pub turn-spec : {M : Type 1} → statement M

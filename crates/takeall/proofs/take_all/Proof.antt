@@ -1,10 +1,10 @@
 -- A refused verdict answers its number and leaves the marks; an accepted one gives the facts that the inner functions ask for.
 use mathlib.Core.Path.{_≡_, refl, sym, ap, _∙_}
 use borrow.Author.Needs.{needs}
-use Rattle.rules.specs.TakeAll.{takeAllGroup, takeAllRefusal, takeAllAnswer, takeAllMarks}
+use Rattle.rules.specs.TakeAll.{takeAllRefusal, takeAllAnswer, takeAllMarks}
 use Rattle.refusals.specs.Number.{verdictOf}
 use Rattle.refusals.proofs.Numbers.{number-is-suc}
-use Rattle.group.proofs.Accepted.{sized}
+use Rattle.group.proofs.Accepted.{sized, group-is}
 use Rattle.takeall.proofs.Accepted.{accepted}
 use Rattle.takeall.proofs.take_all.Statement.{statement}
 use Rattle.takeall.proofs.take_all.Tie as tie
@@ -28,10 +28,10 @@ returns c =
     rw (sym (c .before .before .before .judge .ensures) ∙ ap verdictOf (v .1), number-is-suc (v .0 .0)) (refl, refl)
 
 returns-2 : tie.Need-returns-2
-unfolding takeAllAnswer takeAllMarks takeAllGroup
+unfolding takeAllAnswer takeAllMarks
 returns-2 c =
     let g = c .before .before .before .before .find-group .ensures in
-    rw (none (c .before .before .before .before .before)) (cc, c .before .before .mark .ensures ∙ rw (g .size))
+    rw (none (c .before .before .before .before .before), ← group-is _ _ _ g, ← g .size) (refl, c .before .before .mark .ensures)
 
 pub take-all-spec : {M : Type 1} → statement M
 take-all-spec =
