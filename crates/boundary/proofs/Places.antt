@@ -1,27 +1,44 @@
--- A list with three numbers and 100 weights laid over its first 103 places.
-use mathlib.Core.Path.{_≡_, refl, ap}
+-- The places of a record in a lent list, and what an open or a close leaves there.
+use mathlib.Core.Path.{_≡_, refl, sym, ap, ap₂, _∙_}
 use mathlib.Core.List.{List, [], _∷_, _++_}
 use Prim.Native.Nat.{ℕ, zero, suc, _≤_}
 use native.Mathlib.Omega.{arith}
 use lib.ListN.{length, drop, set}
-use Rattle.rules.specs.Refusals.{Judged, judged}
+use Rattle.rules.specs.Limits.{mostPanel}
+use Rattle.rules.specs.Refusals.{judged, stays, written}
 use Rattle.rules.specs.Chain.{Chain}
-use Rattle.boundary.specs.Record.{recordPlaces, recordList, laidBy}
+use Rattle.rules.proofs.Refusals.{given-tells, refused-tells}
+use Rattle.opening.specs.Opened.{openingBy}
+use Rattle.opening.specs.declared.Opening.{Opening}
+use Rattle.boundary.specs.declared.Figure.{Figure}
+use Rattle.boundary.specs.Figures.{figureFrom, openingNumber}
+use Rattle.boundary.specs.Record.{recordList}
 use borrow.Rule.Slice.PartMut.{putMid}
 
-pub laid : (e w : List ℕ) (a b c : ℕ) → 3 ≤ length e → putMid 3 100 (set (set (set e 0 a) 1 b) 2 c) w ≡ a ∷ b ∷ c ∷ (w ++ drop 103 e)
-laid [] w a b c h = absurd (omega arith)
-laid (x ∷ []) w a b c h = absurd (omega arith)
-laid (x ∷ y ∷ []) w a b c h = absurd (omega arith)
-laid (x ∷ y ∷ z ∷ r) w a b c h = refl
+-- three numbers and the weights over the first places
+pub laid : (e w : List ℕ) (a b c : ℕ) → 3 ≤ length e → length w ≡ mostPanel →
+    putMid 3 mostPanel (set (set (set e 0 a) 1 b) 2 c) w ≡ written 0 (a ∷ b ∷ c ∷ w) e
+laid [] w a b c h k = absurd (omega arith)
+laid (x ∷ []) w a b c h k = absurd (omega arith)
+laid (x ∷ y ∷ []) w a b c h k = absurd (omega arith)
+laid (x ∷ y ∷ z ∷ r) w a b c h k = ap (λ (n : ℕ). a ∷ b ∷ c ∷ (w ++ drop n r)) (sym k)
 
--- what an open answers and leaves in the list, by what the inner open answers
-pub refused-laid : (n k : ℕ) (s : Chain) (xs : List ℕ) → Judged.refused k ≡ judged n s → (k ≡ n) × (xs ≡ laidBy n s xs)
-refused-laid zero k s xs e = absurd (let z : _≡_ {A = ℕ} 0 1 = cc in omega arith)
-refused-laid (suc n) k s xs e = (cc, refl)
+-- the number that a figure carries is the call's refusal, and an opening's is the open's
+pub figure-number : (n f : ℕ) (r : Figure) → r ≡ figureFrom (judged n f) → r .refusal ≡ n
+figure-number zero f r e = ap (λ (x : Figure). x .refusal) e
+figure-number (suc n) f r e = ap (λ (x : Figure). x .refusal) e
 
-pub opened-laid : (n : ℕ) (r s : Chain) (xs : List ℕ) → Judged.given r ≡ judged n s → (0 ≡ n) × (recordList r ++ drop recordPlaces xs ≡ laidBy n s xs)
-opened-laid zero r s xs e =
-    let same : r ≡ s = cc in
-    (refl, ap (λ (q : Chain). recordList q ++ drop recordPlaces xs) same)
-opened-laid (suc n) r s xs e = absurd (let z : _≡_ {A = ℕ} 0 1 = cc in omega arith)
+pub opening-number : (a : Opening) (c s : Chain) (n : ℕ) → openingBy a c ≡ judged n s → openingNumber a ≡ n
+opening-number Opening.Accepted c s n e = sym (given-tells n s c e .0)
+opening-number (Opening.Refused why) c s n e = refused-tells n _ s e
+
+-- the record handed back beside a refusal is not written, whatever it holds
+written-next : (n : ℕ) (before next : Chain) (xs : List ℕ) → written n (recordList (stays n before next)) xs ≡ written n (recordList next) xs
+written-next zero before next xs = refl
+written-next (suc n) before next xs = refl
+
+-- what `lay` leaves of a call with refusal n, handed that number and the record beside it
+pub leaves : (n : ℕ) (before next : Chain) (xs : List ℕ) {m : ℕ} {r : Chain} {ys : List ℕ} → m ≡ n → r ≡ stays n before next →
+    ys ≡ written m (recordList r) xs → ys ≡ written n (recordList next) xs
+leaves n before next xs number beside laid =
+    laid ∙ ap₂ (λ (k : ℕ) (c : Chain). written k (recordList c) xs) number beside ∙ written-next n before next xs

@@ -1,12 +1,17 @@
--- The answer of a quarter, a close or a total as the C interface gives it: the refusal's number, or 0 and the figure.
-use Rattle.rules.specs.Chain as rules
-use Rattle.rules.specs.Total as totals
+-- Answers as the C interface gives them: a refusal's number, or 0 and what was asked for.
+use Prim.Native.Nat.{ℕ}
+use Rattle.refusals.specs.Number.{numberOf}
+use Rattle.rules.specs.Refusals.{Judged}
+use Rattle.opening.specs.declared.Opening.{Opening}
+use Rattle.opening.specs.declared.Opening.the-variants.{Accepted, Refused}
 use Rattle.boundary.specs.declared.Figure.{Figure}
 
-abbrev pub figureFrom : rules.Answer → Figure
-figureFrom (rules.Answer.refused n) = record { refusal = n; figure = 0 }
-figureFrom (rules.Answer.figure f) = record { refusal = 0; figure = f }
+-- the answer of a quarter, a close or a total; after a refusal the figure is 0
+abbrev pub figureFrom : Judged ℕ → Figure
+figureFrom (Judged.refused n) = record { refusal = n; figure = 0 }
+figureFrom (Judged.given f) = record { refusal = 0; figure = f }
 
-abbrev pub sumFrom : totals.TotalAnswer → Figure
-sumFrom (totals.TotalAnswer.refused n) = record { refusal = n; figure = 0 }
-sumFrom (totals.TotalAnswer.total t) = record { refusal = 0; figure = t }
+-- an open answers its number alone: the record is in the lent list
+abbrev pub openingNumber : Opening → ℕ
+openingNumber Accepted = 0
+openingNumber (Refused why) = numberOf why

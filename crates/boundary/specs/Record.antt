@@ -1,6 +1,6 @@
 -- The chain record as a lent list of 103 places or more: units, index and closes, and then its 100 weights.
-use Prim.Native.Nat.{ℕ, zero, suc}
-use mathlib.Core.List.{List, _∷_, _++_}
+use Prim.Native.Nat.{ℕ}
+use mathlib.Core.List.{List, _∷_}
 use lib.ListN.{getD, take, drop}
 use Rattle.rules.specs.Limits.{mostPanel}
 use Rattle.rules.specs.Chain.{Chain}
@@ -14,8 +14,3 @@ recordIn xs =
 
 abbrev pub recordList : Chain → List ℕ
 recordList r = r .units ∷ r .index ∷ r .closes ∷ r .weights
-
--- what a call with refusal n (0: none) leaves in the list: a record in its first places, or the list as it was
-abbrev pub laidBy : ℕ → Chain → List ℕ → List ℕ
-laidBy zero r xs = recordList r ++ drop recordPlaces xs
-laidBy (suc n) r xs = xs

@@ -1,12 +1,13 @@
-// What crosses to a caller in C: the figure of a call, the chain record as a list of numbers, and a command that was read.
+// What crosses to a caller in C: the figure of a call, the number of an opening, the chain record as a list of numbers, and a command that was read.
 // The exported functions stand in crate vougecress.
 pub mod reads;
 pub mod record;
 
 use chain::Answer;
+use opening::Opening;
 ghost use mathlib.Core.Path.{_≡_};
 ghost use Rattle.chain.specs.Record.{answerFrom};
-ghost use Rattle.boundary.specs.Figures.{figureFrom};
+ghost use Rattle.boundary.specs.Figures.{figureFrom, openingNumber};
 
 // The answer of a quarter, a close or a total.
 #[repr(C)]
@@ -24,5 +25,14 @@ pub fn figure_of(answer: Answer) -> Figure
             refusal: why.number() as u32,
             figure: 0,
         },
+    }
+}
+
+pub fn opening_number(answer: Opening) -> u32
+    ensures { λ r. ⌜ r ≡ openingNumber answer ⌝ }
+{
+    match answer {
+        Opening::Accepted => 0,
+        Opening::Refused(why) => why.number() as u32,
     }
 }

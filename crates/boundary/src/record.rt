@@ -2,9 +2,9 @@
 use chain::Chain;
 use limits::MOST_PANEL;
 ghost use mathlib.Core.Path.{_≡_};
-ghost use mathlib.Core.List.{_++_};
 ghost use Prim.Native.Nat.{_≤_};
-ghost use lib.ListN.{length, drop};
+ghost use lib.ListN.{length};
+ghost use Rattle.rules.specs.Refusals.{written};
 ghost use Rattle.chain.specs.Record.{recordOf};
 ghost use Rattle.boundary.specs.Record.{recordPlaces, recordIn, recordList};
 
@@ -42,13 +42,23 @@ pub fn load(lent: &[u64]) -> Chain
 }
 
 // Lays a record into a lent list; what is beyond its places stays.
-pub fn store(chain: Chain, lent: &mut [u64])
+fn store(chain: Chain, lent: &mut [u64])
     requires { ⌜ recordPlaces ≤ length (now lent) ⌝ }
-    ensures { λ _. ⌜ now (lent .exit) ≡ recordList (recordOf chain) ++ drop recordPlaces (now (lent .entry)) ⌝ }
+    ensures { λ _. ⌜ now (lent .exit) ≡ written 0 (recordList (recordOf chain)) (now (lent .entry)) ⌝ }
 {
     lent[0] = chain.units as u64;
     lent[1] = chain.index;
     lent[2] = chain.closes;
     let v = chain.weights;
     copy(&v, &mut lent[BEFORE..RECORD]);
+}
+
+// What an open or a close leaves in a lent list: its record, or after a refusal the list as it was.
+pub fn lay(refusal: u32, chain: Chain, lent: &mut [u64])
+    requires { ⌜ recordPlaces ≤ length (now lent) ⌝ }
+    ensures { λ _. ⌜ now (lent .exit) ≡ written refusal (recordList (recordOf chain)) (now (lent .entry)) ⌝ }
+{
+    if refusal == 0 {
+        store(chain, lent);
+    }
 }

@@ -63,7 +63,7 @@ pub fn is_passed(b: Bound, part: u64, i: usize) -> bool
     i <= b.last
 }
 
-// Unit j of the list, of the bound's own part, is by its key on the side of the last unit where its number puts it.
+// Unit i, of the bound's own part, is by its key on the side of the bound's last unit where its number puts it.
 fn is_apart(
     turnovers: &[u64],
     randoms: &[u32],

@@ -99,7 +99,7 @@ fn run_stream(stream: &[u8]) {
         }
         let next = turned.job;
         held = next;
-        let rest = stream::rest(unread);
+        let rest = front::unread(unread);
         unread = rest;
     }
 }

@@ -16,7 +16,7 @@ use Rattle.closeness.specs.Losses.{parts, weightLoss, leastLink, linkLos
 use Rattle.closeness.proofs.Near.{Near, exactly, times, weaken}
 use Rattle.closeness.proofs.Ratio.{figure-near, figure-most, Ratio, ratio-close, call-above, call-below}
 use Rattle.closeness.proofs.Weights.{Reached, Tracks, whole, loosen, move, under, sum-most, sum-near}
-use Rattle.closeness.proofs.Judged.{Accepted, mean-least, reached-length}
+use Rattle.closeness.proofs.Accepted.{Accepted, mean-least, reached-length}
 
 -- ---- the bound from the losses
 -- n floors of a weight lose 10 × n ten-millionths, and the bound allows 11 × n. On the upper side the rest makes up for counting the loss

@@ -5,7 +5,7 @@
 use Prim.Native.Nat.{ℕ, _+_, _*_, _/_, _≤_, _<_}
 use native.Mathlib.Nat.{mul-le-mul-left, mul-le-mul-right, le-of-mul-le-mul-right, div-mul-le-self, mul-pos}
 use native.Mathlib.Omega.{arith}
-use Rattle.closeness.proofs.Near.{Near, times, cancel, then, floor, drops}
+use Rattle.closeness.proofs.Near.{Near, times, cancel, joined, floor, drops}
 
 -- L = floor(N × k / S), F = floor(C × L / (k × s))
 abbrev pub figureBy : ℕ → ℕ → ℕ → ℕ → ℕ → ℕ
@@ -23,7 +23,7 @@ pub figure-near : (h link l index i k s C S N : ℕ) → 0 < k → 0 < s → 0 <
     h ≤ l * link → link ≤ N * k / S → h ≤ i * index → index ≤ figureBy k s C S N →
     Near h (l + i) (C * N) (figureBy k s C S N * (s * S))
 figure-near h link l index i k s C S N pk ps pS few linkEnough linkLeft indexEnough indexLeft =
-    cancel (C * N) (F * (s * S)) k pk (omega (arith, then few first second))
+    cancel (C * N) (F * (s * S)) k pk (omega (arith, joined few first second))
   where
     L : ℕ
     L = N * k / S
@@ -49,8 +49,8 @@ module _ {h up down C₀ q₀ E₀ C S : ℕ} (s N F : ℕ) (pS : 0 < S) (downFe
       Ratio h (up + w) (down + r) C₀ q₀ E₀ F S′
   ratio-close {w} {r} S′ ps wFew rFew sumMost sumNear near =
       record {
-        below = cancel (C₀ * q₀ * S′) (F * E₀) (s * S) (mul-pos ps pS) (omega (arith, then rFew b₁ b₂));
-        above = cancel (F * E₀) (C₀ * q₀ * S′) (s * S) (mul-pos ps pS) (omega (arith, then wFew a₁ a₂));
+        below = cancel (C₀ * q₀ * S′) (F * E₀) (s * S) (mul-pos ps pS) (omega (arith, joined rFew b₁ b₂));
+        above = cancel (F * E₀) (C₀ * q₀ * S′) (s * S) (mul-pos ps pS) (omega (arith, joined wFew a₁ a₂));
       }
     where
       b₁ : Near h down (C₀ * q₀ * S * (S′ * s)) (C * N * E₀)
@@ -79,7 +79,7 @@ module _ {h up down C₀ q₀ E₀ C S : ℕ} (s N F : ℕ) (pS : 0 < S) (downFe
   pub call-below : {w r : ℕ} (P q : ℕ) → r ≤ h → Near h w P (N * q) → Near h r (C * N) (F * (s * S)) →
       Near h (w + down + r) (C₀ * (P * q₀)) (F * (q * s * E₀))
   call-below {w} {r} P q rFew sumNear near =
-      cancel (C₀ * (P * q₀)) (F * (q * s * E₀)) S pS (omega (arith, then rFew (then downFew a b) c))
+      cancel (C₀ * (P * q₀)) (F * (q * s * E₀)) S pS (omega (arith, joined rFew (joined downFew a b) c))
     where
       a : Near h w (C₀ * (P * q₀) * S) (C₀ * q₀ * S * (N * q))
       a = omega (arith, times (C₀ * q₀ * S) sumNear)

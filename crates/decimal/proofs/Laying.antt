@@ -52,8 +52,8 @@ module _ (buffer a : List ℕ) (at : ℕ) (room : at + length a ≤ length buffe
       ∙ ap (λ (n : ℕ). take at buffer ++ ((a ++ b) ++ drop n buffer)) place
 
 -- the same, as the contracts say it
-pub _then_ : {at p q : ℕ} {a b o o₁ o₂ : List ℕ} → Put at a o o₁ p → Put p b o₁ o₂ q → p ≤ length o → Put at (a ++ b) o o₂ q
-_then_ {at} {p} {q} {a} {b} {o} {o₁} {o₂} first second room =
+pub in-turn : {at p q : ℕ} {a b o o₁ o₂ : List ℕ} → Put at a o o₁ p → Put p b o₁ o₂ q → p ≤ length o → Put at (a ++ b) o o₂ q
+in-turn {at} {p} {q} {a} {b} {o} {o₁} {o₂} first second room =
     let here = first .place in
     let h : at + length a ≤ length o = omega arith in
     let laying = next o a at h b in

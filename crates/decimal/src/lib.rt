@@ -3,7 +3,7 @@ ghost use mathlib.Core.List.{_∷_, []};
 ghost use Prim.Native.Nat.{_+_, _≤_};
 ghost use lib.ListN.{length};
 ghost use Rattle.rules.specs.Lines.{lineOf, lineOf2};
-ghost use Rattle.decimal.specs.Put.{digitsOf, Put};
+ghost use Rattle.decimal.specs.Put.{digitsOf, fieldOf, startOf, Put};
 
 // Lays b at the place at, and answers the place after it.
 fn put_byte(out: &mut [u8], at: usize, b: u8) -> usize
@@ -26,14 +26,30 @@ fn put_decimal(out: &mut [u8], at: usize, n: u64) -> usize
     put_byte(out, last, 48 + (n % 10) as u8)
 }
 
+// Lays a space and the digits of n.
+fn put_field(out: &mut [u8], at: usize, n: u64) -> usize
+    requires { ⌜ at + length (fieldOf n) ≤ length (now out) ⌝ }
+    ensures { λ r. ⌜ Put at (fieldOf n) (now (out .entry)) (now (out .exit)) r ⌝ }
+{
+    let number = put_byte(out, at, b' ');
+    put_decimal(out, number, n)
+}
+
+// Lays a letter, a space and the digits of n.
+fn put_start(out: &mut [u8], at: usize, letter: u8, n: u64) -> usize
+    requires { ⌜ at + length (startOf letter n) ≤ length (now out) ⌝ }
+    ensures { λ r. ⌜ Put at (startOf letter n) (now (out .entry)) (now (out .exit)) r ⌝ }
+{
+    let field = put_byte(out, at, letter);
+    put_field(out, field, n)
+}
+
 // Lays a line of a letter and a number from the place at on.
 pub fn put_line(out: &mut [u8], at: usize, letter: u8, a: u64) -> usize
     requires { ⌜ at + length (lineOf letter a) ≤ length (now out) ⌝ }
     ensures { λ r. ⌜ Put at (lineOf letter a) (now (out .entry)) (now (out .exit)) r ⌝ }
 {
-    let space = put_byte(out, at, letter);
-    let number = put_byte(out, space, b' ');
-    let end = put_decimal(out, number, a);
+    let end = put_start(out, at, letter, a);
     put_byte(out, end, b'\n')
 }
 
@@ -42,10 +58,7 @@ pub fn put_line2(out: &mut [u8], at: usize, letter: u8, a: u64, b: u64) -> usize
     requires { ⌜ at + length (lineOf2 letter a b) ≤ length (now out) ⌝ }
     ensures { λ r. ⌜ Put at (lineOf2 letter a b) (now (out .entry)) (now (out .exit)) r ⌝ }
 {
-    let space = put_byte(out, at, letter);
-    let first = put_byte(out, space, b' ');
-    let between = put_decimal(out, first, a);
-    let second = put_byte(out, between, b' ');
-    let after = put_decimal(out, second, b);
+    let second = put_start(out, at, letter, a);
+    let after = put_field(out, second, b);
     put_byte(out, after, b'\n')
 }

@@ -1,33 +1,51 @@
--- Demand 3 for the code: whatever quarter and close calls follow an open that the code accepts, refused ones among them, every figure
--- that the code answers is within the bound of the exact direct index.
+-- Demand 3 for the code: whatever quarter and close calls follow an open that the code accepts, refused ones among them, every answer is the one that
+-- document 01's rules give from the opened record on, and every figure is within the bound of the exact direct index. By the contracts, calls of
+-- the code are a trace of the definitions; the rest is `closeness`.
 use mathlib.Core.Path.{_≡_, sym, ap, _∙_}
 use mathlib.Core.List.{List}
 use Prim.Native.Nat.{ℕ}
+use contract.Lifetimes.{Lfts}
+use denote.Ref.{RefT, now}
+use Rattle.rules.specs.Refusals.{Judged}
 use Rattle.rules.specs.Chain as rules
 use Rattle.rules.specs.Direct.{directOpen, AllWithin}
 use Rattle.chain.specs.Record.{recordOf}
 use Rattle.chain.specs.declared.Chain.{Chain}
 use Rattle.chain.specs.declared.Answer.{Answer}
-use Rattle.opening.specs.Opened.{openingOf, openingBy}
+use Rattle.chain.proofs.Chain.quarter.Reads as quarter-reads
+use Rattle.chain.proofs.Chain.close.Reads as close-reads
+use Rattle.opening.specs.Opened.{openingBy}
 use Rattle.opening.specs.declared.Opening.{Opening}
 use Rattle.opening.specs.declared.Opened.{Opened}
+use Rattle.opening.proofs.«open».Reads as open-reads
 use Rattle.closeness.specs.Trace.{Trace}
 use Rattle.closeness.proofs.Demand3.{demand3-trace}
-use Rattle.demand3.specs.Calls.{Calls, answersFrom}
+use Rattle.demand3.specs.Calls.{OpenMade, CallsMade, answersFrom}
+
+-- None of the three asks anything of its caller: every list of calls can be made.
+pub open-asks : (κs : Lfts 3) (w g a : RefT (List ℕ)) (start : ℕ) → open-reads.Asked κs (w, (g, (a, (start, tt))))
+open-asks κs w g a start = tt
+
+pub quarter-asks : (κs : Lfts 1) (c : Chain) (p : RefT (List ℕ)) → quarter-reads.Asked κs (c, (p, tt))
+quarter-asks κs c p = tt
+
+pub close-asks : (κs : Lfts 1) (c : Chain) (p : RefT (List ℕ)) → close-reads.Asked κs (c, (p, tt))
+close-asks κs c p = tt
 
 -- calls of the code are a trace of the definitions
-pub trace : {c : Chain} {calls : List rules.Call} {given : List Answer} → Calls c calls given → Trace (recordOf c) calls (answersFrom given)
+trace : {c : Chain} {calls : List rules.Call} {given : List Answer} → CallsMade c calls given → Trace (recordOf c) calls (answersFrom given)
 unfolding answersFrom
-trace Calls.done = Trace.done
-trace (Calls.next p rest) = Trace.next (record { answers = p .answer; leaves = p .chain }) (trace rest)
+trace CallsMade.done = Trace.done
+trace (CallsMade.quarter m rest) = Trace.next (record { answers = m .learnt .0; leaves = m .learnt .1 }) (trace rest)
+trace (CallsMade.close m rest) = Trace.next (record { answers = m .learnt .0; leaves = m .learnt .1 }) (trace rest)
 
--- The theorem: ws, gs, rs and start are what the open was handed, o is what it handed back.
-pub demand3 : (ws gs rs : List ℕ) (start : ℕ) (o : Opened) →
-    openingOf o ≡ rules.openAnswer ws gs rs start → o .answer ≡ Opening.Accepted →
-    (calls : List rules.Call) (given : List Answer) → Calls (o .chain) calls given →
-    AllWithin (directOpen ws gs rs start) calls (answersFrom given)
-demand3 ws gs rs start o promised accepted calls given made =
-    demand3-trace ws gs rs start (recordOf (o .chain)) opened calls (answersFrom given) (trace made)
+-- The theorem: w, g, a and start are what the open was handed, o is what it handed back.
+pub demand3 : (w g a : RefT (List ℕ)) (start : ℕ) (o : Opened) → OpenMade w g a start o → o .answer ≡ Opening.Accepted →
+    (calls : List rules.Call) (given : List Answer) → CallsMade (o .chain) calls given →
+    (answersFrom given ≡ rules.answers (rules.openRecord (now w) (now g) (now a) start) calls)
+    × AllWithin (directOpen (now w) (now g) (now a) start) calls (answersFrom given)
+demand3 w g a start o made accepted calls given follow =
+    demand3-trace (now w) (now g) (now a) start (recordOf (o .chain)) opened calls (answersFrom given) (trace follow)
   where
-    opened : rules.openAnswer ws gs rs start ≡ rules.Opening.opened (recordOf (o .chain))
-    opened = sym promised ∙ ap (λ (a : Opening). openingBy a (recordOf (o .chain))) accepted
+    opened : rules.openAnswer (now w) (now g) (now a) start ≡ Judged.given (recordOf (o .chain))
+    opened = sym (made .learnt .0) ∙ ap (λ (x : Opening). openingBy x (recordOf (o .chain))) accepted

@@ -9,20 +9,20 @@ use refusals::Refusal;
 use refusals::Verdict;
 use relative::Relative;
 ghost use mathlib.Core.Path.{_≡_};
-ghost use Prim.Native.Nat.{_+_, _*_, _/_, _<_, _≤_};
+ghost use Prim.Native.Nat.{_*_, _/_, _<_, _≤_};
 ghost use lib.ListN.{length, take};
 ghost use Rattle.refusals.specs.Number.{verdictOf};
 ghost use Rattle.rules.specs.Limits.{mostPanel, mostWeight, highestRelative, linkScale};
-ghost use Rattle.rules.specs.Chain.{broken, callInputRefusal, figureAt};
-ghost use Rattle.passes.specs.WeightRefusal.{weightRefusal};
-ghost use Rattle.figures.specs.Steps.{recordWith, lastRefusal, Reckonable};
+ghost use Rattle.rules.specs.Refusals.{_then_};
+ghost use Rattle.rules.specs.Chain.{broken, callInputRefusal, weightRefusal, figureAt};
+ghost use Rattle.figures.specs.Steps.{recordWith, Reckonable, reckonedOf, reckonedFrom};
 
 // 19: whether the record breaks a limit. The number of units is judged before the places are looked at.
 fn is_broken(places: &[u64], units: usize, index: u64, closes: u64) -> bool
     requires { ⌜ length (now places) ≡ mostPanel ⌝ }
     ensures { λ r. ⌜ r ≡ broken (recordWith (now (places .entry)) units index closes) ⌝ }
 {
-    if weights::bad_units(units) {
+    if bad_units(units) {
         return true;
     }
     if MOST_CLOSES < closes {
@@ -43,9 +43,9 @@ fn is_broken(places: &[u64], units: usize, index: u64, closes: u64) -> bool
 }
 
 // 19, 9 and 13.
-pub fn judge_call(places: &[u64], units: usize, index: u64, closes: u64, p: &[u32]) -> Verdict
+fn judge_call(places: &[u64], units: usize, index: u64, closes: u64, p: &[u32]) -> Verdict
     requires { ⌜ length (now places) ≡ mostPanel ⌝ }
-    ensures { λ r. ⌜ verdictOf r ≡ callInputRefusal (recordWith (now (places .entry)) units index closes) (now (p .entry)) 0 ⌝ }
+    ensures { λ r. ⌜ verdictOf r ≡ callInputRefusal (recordWith (now (places .entry)) units index closes) (now (p .entry)) ⌝ }
 {
     if is_broken(places, units, index, closes) {
         return Verdict::Refused(Refusal::State);
@@ -69,8 +69,8 @@ fn link(n: u64, v: u64) -> u64
     LINK_SCALE * whole + LINK_SCALE * rest / v
 }
 
-// F of an admitted call.
-pub fn figure(places: &[u64], units: usize, index: u64, p: &[u32]) -> u64
+// F of a call that 19, 9 and 13 let pass.
+fn figure(places: &[u64], units: usize, index: u64, p: &[u32]) -> u64
     requires { ⌜ (units ≤ length (now places)) × Reckonable (take units (now places)) index (now p) ⌝ }
     ensures { λ r. ⌜ r ≡ figureAt index (take units (now (places .entry))) (now (p .entry)) ⌝ }
 {
@@ -79,27 +79,42 @@ pub fn figure(places: &[u64], units: usize, index: u64, p: &[u32]) -> u64
     index * l / (LINK_SCALE * Relative::SCALE)
 }
 
-// 23 and 24.
-pub fn judge_last(f: u64, closes: u64) -> Verdict
-    ensures { λ r. ⌜ verdictOf r ≡ lastRefusal f closes ⌝ }
-{
-    if bad_index(f) {
-        return Verdict::Refused(Refusal::FigureRange);
-    }
-    if MOST_CLOSES <= closes {
-        return Verdict::Refused(Refusal::ClosesSpent);
-    }
-    Verdict::Accepted
+// What a call comes to but for a close's new weights: 19, 9 or 13, or else the figure beside 23 and 24 of it, which 21 and 22 precede.
+pub enum Reckoned {
+    Refused(Refusal),
+    Figure(u64, Verdict),
 }
 
-// 21 and 22 of the units' new weights, beside those that they had, and then 23 and 24.
-pub fn judge_close(places: &[u64], next: &[u64], units: usize, f: u64, closes: u64) -> Verdict
+pub fn reckon(places: &[u64], units: usize, index: u64, closes: u64, p: &[u32]) -> Reckoned
+    requires { ⌜ length (now places) ≡ mostPanel ⌝ }
+    ensures { λ r. ⌜ reckonedFrom r ≡ reckonedOf (recordWith (now (places .entry)) units index closes) (now (p .entry)) ⌝ }
+{
+    let input = judge_call(places, units, index, closes, p);
+    match input {
+        Verdict::Refused(why) => Reckoned::Refused(why),
+        Verdict::Accepted => {
+            let f = figure(places, units, index, p);
+            let out = bad_index(f);
+            let spent = MOST_CLOSES <= closes;
+            if out {
+                return Reckoned::Figure(f, Verdict::Refused(Refusal::FigureRange));
+            }
+            if spent {
+                return Reckoned::Figure(f, Verdict::Refused(Refusal::ClosesSpent));
+            }
+            Reckoned::Figure(f, Verdict::Accepted)
+        }
+    }
+}
+
+// 21 and 22 of a close's new weights, beside those that the units had, and then 23 and 24.
+pub fn judge_close(places: &[u64], next: &[u64], units: usize, late: Verdict) -> Verdict
     requires { ⌜ (units ≤ length (now places)) × (units ≤ length (now next)) ⌝ }
-    ensures { λ r. ⌜ verdictOf r ≡ weightRefusal (take units (now (places .entry))) (take units (now (next .entry))) (lastRefusal f closes) ⌝ }
+    ensures { λ r. ⌜ verdictOf r ≡ (weightRefusal (take units (now (places .entry))) (take units (now (next .entry))) then verdictOf late) ⌝ }
 {
     let moved = passes::judge_weights(&places[..units], &next[..units]);
     match moved {
         Verdict::Refused(why) => Verdict::Refused(why),
-        Verdict::Accepted => judge_last(f, closes),
+        Verdict::Accepted => late,
     }
 }

@@ -1,18 +1,15 @@
 -- How whole parts and remainders decide `fractionBelow`, the comparison by cross multiplication.
 -- Each law multiplies `x / y * y + x % y ≡ x` out by the other denominator.
 use Prim.Native.Nat.{ℕ, _+_, _*_, _/_, _%_, _<_}
-use mathlib.Core.Bool.{Bool, true, false}
-use mathlib.Core.Path.{_≡_, refl, sym, ap, _∙_}
-use native.Mathlib.Nat.{mul-zero, mul-pos, pos-of-ne-zero, mul-lt-mul-of-pos-right, mul-le-mul-right, div-lt-iff-lt-mul, div-mul-le-self, div-add-mod', lt-of-mul-lt-mul-right}
+use mathlib.Core.Bool.{true, false}
+use mathlib.Core.Path.{_≡_, sym, ap, _∙_}
+use native.Mathlib.Nat.{mul-zero, mul-pos, pos-of-ne-zero, mul-lt-mul-of-pos-right, mul-le-mul-right, lt-of-mul-lt-mul-right}
+use native.Mathlib.Nat.{div-lt-iff-lt-mul, div-mul-le-self, div-add-mod'}
 use native.Mathlib.Omega.{arith}
 use borrow.Author.Tests.{ltb-true, lt-ltb, le-ltb}
 use lib.Dec.{ltb}
 use Rattle.rules.specs.Draw.{fractionBelow}
-
--- the two cases of a test
-pub by-test : (t : Bool) {A : Type 0} → (t ≡ true → A) → (t ≡ false → A) → A
-by-test true holds fails = holds refl
-by-test false holds fails = fails refl
+use Rattle.rules.proofs.Tests.{by-test}
 
 -- two tests that hold together are equal
 ltb-same : (x y u v : ℕ) → (x < y → u < v) → (u < v → x < y) → ltb x y ≡ ltb u v

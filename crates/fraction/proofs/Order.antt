@@ -2,7 +2,7 @@
 -- both "below" and "not below" carry over a third fraction. Shown by multiplying the cross products by the third denominator.
 use Prim.Native.Nat.{ℕ, _*_, _<_}
 use mathlib.Core.Bool.{true, false}
-use mathlib.Core.Path.{_≡_}
+use mathlib.Core.Path.{_≡_, refl, _∙_}
 use native.Mathlib.Nat.{mul-le-mul-right, le-of-mul-le-mul-right}
 use native.Mathlib.Omega.{arith}
 use borrow.Author.Tests.{ltb-true, ltb-false, le-ltb}
@@ -32,3 +32,10 @@ not-below-transitive a b c d e f hb hd hf h k =
       mul-le-mul-right b (ltb-false (c * f) (e * d) k),
     ))
     hd)
+
+-- fractions of the same terms compare alike, and of two of the same terms neither is below the other
+pub same-fractions : {a b c d a′ b′ c′ d′ : ℕ} → a ≡ a′ → b ≡ b′ → c ≡ c′ → d ≡ d′ → fractionBelow a b c d ≡ fractionBelow a′ b′ c′ d′
+same-fractions e f g h = cc
+
+pub same-terms : (a b c d : ℕ) → a ≡ c → b ≡ d → fractionBelow a b c d ≡ false
+same-terms a b c d e f = same-fractions e f refl refl ∙ irreflexive c d

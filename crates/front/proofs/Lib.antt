@@ -1,3 +1,2 @@
 pub mod Slice
-pub mod Held
-pub mod FrontCall
+pub mod Results

@@ -1,5 +1,6 @@
 // Document 01, "Job stream": "the reader hands back the rest after it", the unread part of the caller's stream beside the reading.
-// A struct that holds a reference is proved by hand, so its functions only call and hand on; `stream` judges.
+// `stream` judges. A struct that holds a reference is proved by hand, so the functions over it only call and hand on; `reading_at` and `unread` have
+// plain parameters and results, and whoever calls them needs no proof by hand.
 ghost use mathlib.Core.Path.{_≡_};
 ghost use Rattle.rules.specs.Stream.{reading, restOf};
 ghost use Rattle.stream.specs.Value.{readingFrom};
@@ -11,39 +12,38 @@ pub struct Front<'a> {
     pub rest: &'a [u8],
 }
 
+// What follows the first command of a part; all of it where none was read.
+fn rest(part: &[u8]) -> &[u8]
+    ensures { λ r. ⌜ now r ≡ restOf (now (part .entry)) ⌝ }
+{
+    let n = stream::taken(part);
+    &part[n..]
+}
+
 // The reading at the front of s and the rest, at once.
 pub fn read_front<'a>(s: &'a [u8]) -> Front<'a>
     ensures { λ r. ⌜ (readingFrom (r .reading) ≡ reading (now (s .entry))) × (now (r .rest) ≡ restOf (now (s .entry))) ⌝ }
 {
     let found = stream::read(s);
-    let part = stream::rest(s);
+    let after = rest(s);
     Front {
         reading: found,
-        rest: part,
+        rest: after,
     }
 }
 
-pub fn reading_in<'a>(f: Front<'a>) -> Reading
-    ensures { λ r. ⌜ r ≡ f .entry .reading ⌝ }
-{
-    f.reading
-}
-
-pub fn rest_in<'a>(f: Front<'a>) -> &'a [u8]
-    ensures { λ r. ⌜ r ≡ f .entry .rest ⌝ }
-{
-    f.rest
-}
-
-// Over plain slices: whoever calls these needs no proof by hand.
+// The reading alone.
 pub fn reading_at<'a>(s: &'a [u8]) -> Reading
     ensures { λ r. ⌜ readingFrom r ≡ reading (now (s .entry)) ⌝ }
 {
-    reading_in(read_front(s))
+    let both = read_front(s);
+    both.reading
 }
 
+// The rest alone.
 pub fn unread<'a>(s: &'a [u8]) -> &'a [u8]
     ensures { λ r. ⌜ now r ≡ restOf (now (s .entry)) ⌝ }
 {
-    rest_in(read_front(s))
+    let front = read_front(s);
+    front.rest
 }

@@ -5,23 +5,23 @@ use jobstate::Saying;
 use jobstate::Stepped;
 use jobstate::said;
 use limits::MOST_HELD;
+use limits::MOST_PANEL;
 use stream::Command;
-ghost use mathlib.Core.Path.{_≡_};
-ghost use Rattle.rules.specs.Job.{onDraw, step};
+ghost use Rattle.rules.specs.Stream as rules;
 ghost use Rattle.stream.specs.Value.{commandFrom};
-ghost use Rattle.jobstate.specs.State.{jobOf, stepFrom};
+ghost use Rattle.jobstate.specs.Steps.{Steps};
 
 // 2: a panel of the frame so far.
 pub fn on_draw(job: Job, size: u8, start: u32) -> Stepped
-    ensures { λ r. ⌜ stepFrom r ≡ onDraw (jobOf job) size start ⌝ }
+    ensures { λ r. ⌜ Steps job (rules.Command.draw size start) r ⌝ }
 {
     let units = jobstate::within(job.units, MOST_HELD);
     let z = size as usize;
     let numbers = job.numbers;
     let turnovers = job.turnovers;
     let randoms = job.randoms;
-    let mut panel = jobstate::places(0);
-    let mut weights = jobstate::no_weights();
+    let mut panel = [0u32; MOST_PANEL];
+    let mut weights = [0u64; MOST_PANEL];
     let answer = draw::draw(
         &numbers[..units],
         &turnovers[..units],
@@ -43,7 +43,7 @@ pub fn on_draw(job: Job, size: u8, start: u32) -> Stepped
 
 // What a command does to the job and says. A refused command leaves the job as it was.
 pub fn step(job: Job, command: Command) -> Stepped
-    ensures { λ r. ⌜ stepFrom r ≡ step (jobOf job) (commandFrom command) ⌝ }
+    ensures { λ r. ⌜ Steps job (commandFrom command) r ⌝ }
 {
     match command {
         Command::Unit {

@@ -9,14 +9,12 @@ use jobstate::within;
 use limits::MOST_PANEL;
 use opening::Opening;
 use refusals::Refusal;
-ghost use mathlib.Core.Path.{_≡_};
-ghost use Rattle.rules.specs.Chain.{Call};
-ghost use Rattle.rules.specs.Job.{onOpen, onCall};
-ghost use Rattle.jobstate.specs.State.{jobOf, stepFrom};
+ghost use Rattle.rules.specs.Stream.{Command};
+ghost use Rattle.jobstate.specs.Steps.{Steps};
 
 // 5: a new chain from the panel, its shares and the pending relatives.
 pub fn on_open(job: Job, start: u64) -> Stepped
-    ensures { λ r. ⌜ stepFrom r ≡ onOpen (jobOf job) start ⌝ }
+    ensures { λ r. ⌜ Steps job (Command.opens start) r ⌝ }
 {
     let size = within(job.size, MOST_PANEL);
     if size == 0 {
@@ -38,9 +36,10 @@ pub fn on_open(job: Job, start: u64) -> Stepped
 
 // 6: the figure of a quarter.
 pub fn on_quarter(job: Job) -> Stepped
-    ensures { λ r. ⌜ stepFrom r ≡ onCall (jobOf job) (jobOf job .chain) (Call.quarter (jobOf job .pending)) ⌝ }
+    ensures { λ r. ⌜ Steps job Command.quarter r ⌝ }
 {
-    if !job.is_open {
+    let has_chain = job.is_open;
+    if !has_chain {
         return said(job, Saying::Refused(Refusal::State));
     }
     let size = within(job.size, MOST_PANEL);
@@ -59,9 +58,10 @@ pub fn on_quarter(job: Job) -> Stepped
 
 // 7: the figure of a close, which moves the chain.
 pub fn on_close(job: Job) -> Stepped
-    ensures { λ r. ⌜ stepFrom r ≡ onCall (jobOf job) (jobOf job .chain) (Call.close (jobOf job .pending)) ⌝ }
+    ensures { λ r. ⌜ Steps job Command.close r ⌝ }
 {
-    if !job.is_open {
+    let is_open = job.is_open;
+    if !is_open {
         return said(job, Saying::Refused(Refusal::State));
     }
     let size = within(job.size, MOST_PANEL);
@@ -72,8 +72,8 @@ pub fn on_close(job: Job) -> Stepped
     match answer {
         Answer::Refused(why) => said(job, Saying::Refused(why)),
         Answer::Figure(f) => {
-            let next = answered.chain;
-            said(with_chain(job, next), Saying::Close(f))
+            let moved = answered.chain;
+            said(with_chain(job, moved), Saying::Close(f))
         }
     }
 }

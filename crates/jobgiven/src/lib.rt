@@ -8,13 +8,12 @@ use jobstate::within;
 use limits::MOST_HELD;
 use limits::MOST_PANEL;
 use refusals::Refusal;
-ghost use mathlib.Core.Path.{_≡_};
-ghost use Rattle.rules.specs.Job.{onUnit, onShare, onRelative};
-ghost use Rattle.jobstate.specs.State.{jobOf, stepFrom};
+ghost use Rattle.rules.specs.Stream.{Command};
+ghost use Rattle.jobstate.specs.Steps.{Steps};
 
 // 1: a unit joins the frame.
 pub fn on_unit(job: Job, number: u32, turnover: u64, random: u32) -> Stepped
-    ensures { λ r. ⌜ stepFrom r ≡ onUnit (jobOf job) number turnover random ⌝ }
+    ensures { λ r. ⌜ Steps job (Command.unit number turnover random) r ⌝ }
 {
     let at = job.units;
     if MOST_HELD <= at {
@@ -30,7 +29,7 @@ pub fn on_unit(job: Job, number: u32, turnover: u64, random: u32) -> Stepped
 
 // 3: a share of a unit of the panel.
 pub fn on_share(job: Job, place: u8, share: u16) -> Stepped
-    ensures { λ r. ⌜ stepFrom r ≡ onShare (jobOf job) place share ⌝ }
+    ensures { λ r. ⌜ Steps job (Command.share place share) r ⌝ }
 {
     let at = place as usize;
     let size = within(job.size, MOST_PANEL);
@@ -44,7 +43,7 @@ pub fn on_share(job: Job, place: u8, share: u16) -> Stepped
 
 // 4: a relative of a unit of the panel.
 pub fn on_relative(job: Job, place: u8, relative: u32) -> Stepped
-    ensures { λ r. ⌜ stepFrom r ≡ onRelative (jobOf job) place relative ⌝ }
+    ensures { λ r. ⌜ Steps job (Command.relative place relative) r ⌝ }
 {
     let at = place as usize;
     let units = within(job.size, MOST_PANEL);

@@ -1,2 +1,3 @@
 pub mod FirstPlaces
 pub mod Jobs
+pub mod Steps

@@ -4,6 +4,7 @@ use mathlib.Core.Bool.{cond}
 use mathlib.Core.List.{List}
 use lib.ListN.{take}
 use Rattle.refusals.specs.Number.{numberOf}
+use Rattle.rules.specs.Refusals.{Judged}
 use Rattle.rules.specs.TakeAll.{frame}
 use Rattle.rules.specs.Job as rules
 use Rattle.chain.specs.Record.{recordOf}
@@ -24,15 +25,15 @@ jobOf j =
     }
 
 -- what a command says, with the unit numbers and the W of the panel
-abbrev pub sayingBy : Saying → List ℕ → List ℕ → rules.Saying
-sayingBy (Refused why) numbers weights = rules.Saying.refused (numberOf why)
-sayingBy Nothing numbers weights = rules.Saying.nothing
-sayingBy Panel numbers weights = rules.Saying.panelDrawn numbers weights
-sayingBy (Quarter f) numbers weights = rules.Saying.quarterFigure f
-sayingBy (Close f) numbers weights = rules.Saying.closeFigure f
+abbrev pub sayingBy : Saying → List ℕ → List ℕ → Judged rules.Saying
+sayingBy (Refused why) numbers weights = Judged.refused (numberOf why)
+sayingBy Nothing numbers weights = Judged.given rules.Saying.nothing
+sayingBy Panel numbers weights = Judged.given (rules.Saying.panelDrawn numbers weights)
+sayingBy (Quarter f) numbers weights = Judged.given (rules.Saying.quarterFigure f)
+sayingBy (Close f) numbers weights = Judged.given (rules.Saying.closeFigure f)
 
 -- what the code's step says: a panel is that of the job it leaves
-abbrev pub sayingFrom : Stepped → rules.Saying
+abbrev pub sayingFrom : Stepped → Judged rules.Saying
 sayingFrom s = sayingBy (s .says) (take (s .job .size) (s .numbers)) (take (s .job .size) (s .job .panel))
 
 -- the code's step: the next job and what is said

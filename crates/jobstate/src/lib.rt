@@ -7,11 +7,9 @@ use limits::SHARE_SCALE;
 use refusals::Refusal;
 ghost use mathlib.Core.Path.{_≡_};
 ghost use Prim.Native.Nat.{min};
-ghost use lib.ListN.{replicate, take};
-ghost use Rattle.rules.specs.Limits.{mostHeld, mostPanel};
-ghost use Rattle.rules.specs.Job.{emptyJob, withChain, withPanel};
-ghost use Rattle.chain.specs.Record.{recordOf};
+ghost use Rattle.rules.specs.Job.{emptyJob};
 ghost use Rattle.jobstate.specs.State.{jobOf};
+ghost use Rattle.jobstate.specs.Steps.{jobAtStart, panelHeld, chainHeld, plainStep};
 
 // The frame so far, the W of the drawn panel with its shares and pending relatives, and the chain if it is open.
 pub struct Job {
@@ -53,49 +51,23 @@ pub fn within(count: usize, places: usize) -> usize
     count
 }
 
-// The arrays of a frame without units and of a panel without a weight.
-pub fn no_units() -> [u32; MOST_HELD]
-    ensures { λ r. ⌜ r ≡ replicate mostHeld 0 ⌝ }
-{
-    [0; MOST_HELD]
-}
-
-pub fn no_turnovers() -> [u64; MOST_HELD]
-    ensures { λ r. ⌜ r ≡ replicate mostHeld 0 ⌝ }
-{
-    [0; MOST_HELD]
-}
-
-// One number for each place of a panel.
-pub fn places(x: u32) -> [u32; MOST_PANEL]
-    ensures { λ r. ⌜ r ≡ replicate mostPanel x ⌝ }
-{
-    [x; MOST_PANEL]
-}
-
-pub fn no_weights() -> [u64; MOST_PANEL]
-    ensures { λ r. ⌜ r ≡ replicate mostPanel 0 ⌝ }
-{
-    [0; MOST_PANEL]
-}
-
 // A step that draws no panel.
 pub fn said(job: Job, says: Saying) -> Stepped
-    ensures { λ r. ⌜ (r .job ≡ job) × (r .says ≡ says) ⌝ }
+    ensures { λ r. ⌜ r ≡ plainStep job says ⌝ }
 {
-    let none = places(0);
+    let numbers = [0u32; MOST_PANEL];
     Stepped {
         job: job,
         says: says,
-        numbers: none,
+        numbers: numbers,
     }
 }
 
 // The job after an accepted open, quarter or close: the chain that it leaves, and no relatives.
 pub fn with_chain(job: Job, chain: Chain) -> Job
-    ensures { λ r. ⌜ jobOf r ≡ withChain (jobOf job) (recordOf chain) ⌝ }
+    ensures { λ r. ⌜ r ≡ chainHeld job chain ⌝ }
 {
-    let none = places(0);
+    let none = [0u32; MOST_PANEL];
     let mut next = job;
     next.pending = none;
     next.chain = chain;
@@ -105,10 +77,10 @@ pub fn with_chain(job: Job, chain: Chain) -> Job
 
 // The job after an accepted draw: a panel with whole shares, no relatives and no chain; the frame stays.
 pub fn drawn(job: Job, size: usize, weights: [u64; MOST_PANEL]) -> Job
-    ensures { λ r. ⌜ (r .size ≡ size) × (jobOf r ≡ withPanel (jobOf job) (min size mostPanel) (take size weights)) ⌝ }
+    ensures { λ r. ⌜ r ≡ panelHeld job size weights ⌝ }
 {
-    let whole = places(SHARE_SCALE as u32);
-    let pending = places(0);
+    let whole = [SHARE_SCALE as u32; MOST_PANEL];
+    let pending = [0u32; MOST_PANEL];
     let mut next = job;
     next.panel = weights;
     next.shares = whole;
@@ -120,15 +92,15 @@ pub fn drawn(job: Job, size: usize, weights: [u64; MOST_PANEL]) -> Job
 
 // The job before the first command.
 pub fn empty() -> Job
-    ensures { λ r. ⌜ jobOf r ≡ emptyJob ⌝ }
+    ensures { λ r. ⌜ (r ≡ jobAtStart) × (jobOf r ≡ emptyJob) ⌝ }
 {
-    let numbers = no_units();
-    let turnovers = no_turnovers();
-    let randoms = no_units();
-    let panel = no_weights();
-    let shares = places(0);
-    let pending = places(0);
-    let weights = no_weights();
+    let numbers = [0u32; MOST_HELD];
+    let turnovers = [0u64; MOST_HELD];
+    let randoms = [0u32; MOST_HELD];
+    let panel = [0u64; MOST_PANEL];
+    let shares = [0u32; MOST_PANEL];
+    let pending = [0u32; MOST_PANEL];
+    let weights = [0u64; MOST_PANEL];
     let chain = Chain {
         weights: weights,
         units: 0,

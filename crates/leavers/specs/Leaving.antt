@@ -11,10 +11,15 @@ use Rattle.rules.specs.TakeAll.{Frame, Group}
 use Rattle.rules.specs.Draw.{sampledBy}
 use Rattle.rules.specs.Rotation.{startAt}
 use Rattle.members.specs.declared.Places.{Places}
+use Rattle.members.specs.Places.{Holding}
 
 -- the member whose place stands at j is not sampled under the start
 unfoldable pub memberLeaves : Frame → Group → List ℕ → ℕ → ℕ → Bool
 memberLeaves f g places start j = not (sampledBy f g start (getD places j 0))
+
+-- r holds those of the members, in the members' order
+abbrev pub LeaversOf : Frame → Group → Places → ℕ → Places → Type 0
+LeaversOf f g members start r = Holding (memberLeaves f g (members .places) start) (λ j. getD (members .places) j 0) (members .count) r
 
 -- how many members are not sampled under the start
 unfoldable pub leaving : Frame → Group → Places → ℕ → ℕ

@@ -1,3 +1,2 @@
 pub mod Leaving
 pub mod Search
-pub mod Buffer

@@ -3,20 +3,19 @@
 use group::Group;
 use limits::MOST_PANEL;
 use limits::RANDOM_RANGE;
-use limits::STEPS;
 use limits::STEP_LENGTH;
+use limits::STEPS;
 use members::Places;
 use panel::told;
 ghost use mathlib.Core.Path.{_≡_};
 ghost use Prim.Native.Nat.{_<_, _≤_};
-ghost use lib.ListN.{length, getD};
+ghost use lib.ListN.{length};
 ghost use Rattle.rules.specs.Limits.{randomRange, steps};
+ghost use Rattle.rules.specs.Refusals.{written};
 ghost use Rattle.rules.specs.Rotation.{startAt};
 ghost use Rattle.group.specs.Group.{rulesGroup};
-ghost use Rattle.members.specs.Places.{Holding};
 ghost use Rattle.terms.specs.Terms.{unnumbered};
-ghost use Rattle.leavers.specs.Leaving.{memberLeaves, firstStep, inPlaceOrder};
-ghost use Rattle.leavers.specs.Buffer.{Written};
+ghost use Rattle.leavers.specs.Leaving.{LeaversOf, firstStep, inPlaceOrder};
 ghost use Rattle.leavers.specs.Search.{Within, Searched};
 
 // "(old + 1,000 × k) mod 1,000,000"
@@ -37,7 +36,7 @@ pub fn find_leavers(
     start: u32,
 ) -> Places
     requires { ⌜ Searched (now turnovers) (now randoms) (now gaps) g members × (start < randomRange) ⌝ }
-    ensures { λ r. ⌜ Holding (memberLeaves (unnumbered (now (turnovers .entry)) (now (randoms .entry))) (rulesGroup (now (turnovers .entry)) g) (members .places) start) (λ j. getD (members .places) j 0) (members .count) r ⌝ }
+    ensures { λ r. ⌜ LeaversOf (unnumbered (now (turnovers .entry)) (now (randoms .entry))) (rulesGroup (now (turnovers .entry)) g) members start r ⌝ }
 {
     let told = told::tell(turnovers, randoms, gaps, g, start);
     let units = members.places;
@@ -84,7 +83,7 @@ pub fn first_step(
 // Writes the numbers of units in the order of their places: in what order the leavers are given.
 pub fn write_numbers(numbers: &[u32], units: Places, out: &mut [u32])
     requires { ⌜ Within (length (now numbers)) units × (units .count ≤ length (now out)) ⌝ }
-    ensures { λ _. ⌜ Written (inPlaceOrder (now (numbers .entry)) units) (now (out .entry)) (now (out .exit)) ⌝ }
+    ensures { λ _. ⌜ now (out .exit) ≡ written 0 (inPlaceOrder (now (numbers .entry)) units) (now (out .entry)) ⌝ }
 {
     let places = units.places;
     let many = units.count;

@@ -1,15 +1,14 @@
 -- A line takes at most 44 bytes, and a buffer has the room of a text or stays as it is.
 use Prim.Native.Nat.{ℕ, _+_, _≤_, _<_}
-use mathlib.Core.Path.{_≡_, refl, ap, _∙_}
+use mathlib.Core.Path.{_≡_, ap, _∙_}
 use mathlib.Core.List.{List, _++_}
-use lib.ListN.{length, take, drop}
-use lib.Seq.{take-at}
+use lib.ListN.{length, drop}
 use native.Mathlib.Omega.{arith}
 use borrow.Author.Tests.{lt-ltb, le-ltb}
 use Rattle.rules.specs.Lines.{lineOf, lineOf2}
 use Rattle.decimal.specs.Put.{laidAt, Put}
 use Rattle.decimal.proofs.Digits.{digits-length, line-length, line2-length}
-use Rattle.lines.specs.Laid.{lineRoom, laid, laidCount}
+use Rattle.lines.specs.Laid.{lineRoom, laid, laidCount, Lays}
 
 -- room for the longest line is room for any
 pub line-fits : (letter a at n : ℕ) → at + lineRoom ≤ n → at + length (lineOf letter a) ≤ n
@@ -23,7 +22,7 @@ line2-next letter a b {at} put = omega (arith, put .place, line2-fits letter a b
 
 module _ (room : ℕ) (text o : List ℕ) where
   -- a text laid at the front of a buffer with the room
-  pub at-front : {o₁ : List ℕ} {r : ℕ} → room ≤ length o → Put 0 text o o₁ r → (r ≡ laidCount room text o) × (o₁ ≡ laid room text o)
+  pub at-front : {o₁ : List ℕ} {r : ℕ} → room ≤ length o → Put 0 text o o₁ r → Lays room text o o₁ r
   unfolding laidAt laid laidCount
   at-front h put =
       let start : 0 + length text ≡ length text = omega arith in
@@ -31,11 +30,6 @@ module _ (room : ℕ) (text o : List ℕ) where
       (simp (le-ltb _ _ h) (put .place ∙ start), simp (le-ltb _ _ h) (put .bytes ∙ fronted))
 
   -- a buffer without the room stays
-  pub no-room : length o < room → (0 ≡ laidCount room text o) × (o ≡ laid room text o)
+  pub no-room : length o < room → Lays room text o o 0
   unfolding laid laidCount
   no-room h = (simp (lt-ltb _ _ h), simp (lt-ltb _ _ h))
-
-  -- what a caller writes out: the bytes laid are the text
-  pub written : room ≤ length o → take (laidCount room text o) (laid room text o) ≡ text
-  unfolding laid laidCount
-  written h = simp (le-ltb _ _ h) (take-at text (drop (length text) o) (length text) refl)

@@ -7,7 +7,7 @@ ghost use Prim.Native.Nat.{_*_, _≤_, min};
 ghost use lib.ListN.{length};
 ghost use Rattle.rules.specs.Lines.{panelLines, quarterLine, closeLine, refusalLine};
 ghost use Rattle.decimal.specs.Put.{Put};
-ghost use Rattle.lines.specs.Laid.{lineRoom, laid, laidCount};
+ghost use Rattle.lines.specs.Laid.{lineRoom, Lays, PanelLaid};
 
 // Bytes of the longest line.
 pub const LINE_ROOM: usize = 44;
@@ -17,7 +17,7 @@ pub const PANEL_ROOM: usize = 4400;
 
 // `Q F`.
 pub fn quarter_line(out: &mut [u8], figure: u64) -> usize
-    ensures { λ r. ⌜ (r ≡ laidCount lineRoom (quarterLine figure) (now (out .entry))) × (now (out .exit) ≡ laid lineRoom (quarterLine figure) (now (out .entry))) ⌝ }
+    ensures { λ r. ⌜ Lays lineRoom (quarterLine figure) (now (out .entry)) (now (out .exit)) r ⌝ }
 {
     if out.len() < LINE_ROOM {
         return 0;
@@ -27,7 +27,7 @@ pub fn quarter_line(out: &mut [u8], figure: u64) -> usize
 
 // `C F`.
 pub fn close_line(out: &mut [u8], figure: u64) -> usize
-    ensures { λ r. ⌜ (r ≡ laidCount lineRoom (closeLine figure) (now (out .entry))) × (now (out .exit) ≡ laid lineRoom (closeLine figure) (now (out .entry))) ⌝ }
+    ensures { λ r. ⌜ Lays lineRoom (closeLine figure) (now (out .entry)) (now (out .exit)) r ⌝ }
 {
     if out.len() < LINE_ROOM {
         return 0;
@@ -37,7 +37,7 @@ pub fn close_line(out: &mut [u8], figure: u64) -> usize
 
 // `R number offset`.
 pub fn refusal_line(out: &mut [u8], number: u8, offset: usize) -> usize
-    ensures { λ r. ⌜ (r ≡ laidCount lineRoom (refusalLine number offset) (now (out .entry))) × (now (out .exit) ≡ laid lineRoom (refusalLine number offset) (now (out .entry))) ⌝ }
+    ensures { λ r. ⌜ Lays lineRoom (refusalLine number offset) (now (out .entry)) (now (out .exit)) r ⌝ }
 {
     if out.len() < LINE_ROOM {
         return 0;
@@ -76,8 +76,7 @@ fn put_panel(out: &mut [u8], numbers: &[u32], weights: &[u64]) -> usize
 
 // `P number weight` for each panel unit.
 pub fn panel_lines(out: &mut [u8], numbers: &[u32], weights: &[u64]) -> usize
-    ensures { λ r. ⌜ (r ≡ laidCount (lineRoom * length (now (numbers .entry))) (panelLines (now (numbers .entry)) (now (weights .entry))) (now (out .entry)))
-        × (now (out .exit) ≡ laid (lineRoom * length (now (numbers .entry))) (panelLines (now (numbers .entry)) (now (weights .entry))) (now (out .entry))) ⌝ }
+    ensures { λ r. ⌜ PanelLaid (now (numbers .entry)) (now (weights .entry)) (now (out .entry)) (now (out .exit)) r ⌝ }
 {
     if out.len() / LINE_ROOM < numbers.len() {
         return 0;

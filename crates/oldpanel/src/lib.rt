@@ -5,10 +5,11 @@ use limits::MOST_PANEL;
 use refusals::Refusal;
 use refusals::Verdict;
 ghost use mathlib.Core.Path.{_≡_};
+ghost use Rattle.rules.specs.Refusals.{_then_};
 ghost use Rattle.rules.specs.TakeAll.{frame};
-ghost use Rattle.rules.specs.Rotation.{badOldPanel};
+ghost use Rattle.rules.specs.Draw.{frameRefusal};
+ghost use Rattle.rules.specs.Rotation.{badOldPanel, oldPanelRefusal};
 ghost use Rattle.refusals.specs.Number.{verdictOf};
-ghost use Rattle.oldpanel.specs.Judge.{oldRefusal, earlyRefusal};
 
 // 7: "f over 1,000, or old panel over 100 or not rising"
 fn bad_old_panel(panel: &[u32], fraction: u32) -> bool
@@ -23,11 +24,11 @@ fn bad_old_panel(panel: &[u32], fraction: u32) -> bool
     !frame::rising(panel)
 }
 
-// Refusals 6 and 7; room is the length of the leavers' buffer.
-fn judge_old(panel: &[u32], fraction: u32, room: usize) -> Verdict
-    ensures { λ r. ⌜ verdictOf r ≡ oldRefusal (now (panel .entry)) fraction room 0 ⌝ }
+// Refusals 6 and 7: the leavers' buffer, and the old panel with the fraction.
+fn judge_old(panel: &[u32], fraction: u32, leavers: &[u32]) -> Verdict
+    ensures { λ r. ⌜ verdictOf r ≡ oldPanelRefusal (now (panel .entry)) fraction (now (leavers .entry)) ⌝ }
 {
-    if room < panel.len() {
+    if leavers.len() < panel.len() {
         return Verdict::Refused(Refusal::ResultBuffer);
     }
     if bad_old_panel(panel, fraction) {
@@ -45,12 +46,14 @@ pub fn judge(
     start: u32,
     panel: &[u32],
     fraction: u32,
-    room: usize,
+    leavers: &[u32],
 ) -> Verdict
-    ensures { λ r. ⌜ verdictOf r ≡ earlyRefusal (frame (now (numbers .entry)) (now (turnovers .entry)) (now (randoms .entry))) z start (now (panel .entry)) fraction room 0 ⌝ }
+    ensures { λ r.
+        ⌜ verdictOf r ≡ (frameRefusal (frame (now (numbers .entry)) (now (turnovers .entry)) (now (randoms .entry))) z start
+        then oldPanelRefusal (now (panel .entry)) fraction (now (leavers .entry))) ⌝ }
 {
     match frame::judge(numbers, turnovers, randoms, z, start) {
         Verdict::Refused(why) => Verdict::Refused(why),
-        Verdict::Accepted => judge_old(panel, fraction, room),
+        Verdict::Accepted => judge_old(panel, fraction, leavers),
     }
 }

@@ -1,12 +1,12 @@
 -- Document 01, "Chain record", open: the opened record and the answer of the code as those of `rules`.
-use Prim.Native.Nat.{ℕ, zero, suc}
+use Prim.Native.Nat.{ℕ}
 use mathlib.Core.List.{List}
 use lib.ListN.{replicate}
 use Rattle.refusals.specs.Number.{numberOf}
 use Rattle.refusals.specs.declared.Refusal.{Refusal}
 use Rattle.rules.specs.Limits.{mostPanel}
+use Rattle.rules.specs.Refusals.{Judged, stays}
 use Rattle.rules.specs.Chain.{Chain, openRefusal, openRecord}
-use Rattle.rules.specs.Chain as rules
 use Rattle.figures.specs.Steps.{recordWith}
 use Rattle.chain.specs.Record.{recordOf}
 use Rattle.opening.specs.declared.Opening.{Opening}
@@ -26,17 +26,13 @@ refusedOpening why =
     }
 
 -- the code's opening: the record where it is accepted, a refusal by its number alone
-abbrev pub openingBy : Opening → Chain → rules.Opening
-openingBy Accepted c = rules.Opening.opened c
-openingBy (Refused why) c = rules.Opening.refused (numberOf why)
+abbrev pub openingBy : Opening → Chain → Judged Chain
+openingBy Accepted c = Judged.given c
+openingBy (Refused why) c = Judged.refused (numberOf why)
 
-abbrev pub openingOf : Opened → rules.Opening
+abbrev pub openingOf : Opened → Judged Chain
 openingOf o = openingBy (o .answer) (recordOf (o .chain))
 
 -- the record that is handed back beside the answer
-abbrev pub recordBy : ℕ → Chain → Chain
-recordBy zero c = c
-recordBy (suc n) c = emptyRecord
-
 unfoldable pub openedRecord : List ℕ → List ℕ → List ℕ → ℕ → Chain
-openedRecord ws gs rs start = recordBy (openRefusal ws gs rs start) (openRecord ws gs rs start)
+openedRecord ws gs rs start = stays (openRefusal ws gs rs start) emptyRecord (openRecord ws gs rs start)

@@ -52,9 +52,10 @@ pub fn open(w: &[u64], g: &[u32], a: &[u32], start: u64) -> Opened
         Verdict::Refused(why) => refused(why),
         Verdict::Accepted => {
             let n = w.len();
+            let mut shared = blank();
             let mut places = blank();
-            let filled = openweights::judge_places(w, g, a, &mut places[..n]);
-            match filled {
+            let last = openweights::weigh(w, g, a, &mut shared[..n], &mut places[..n]);
+            match last {
                 Verdict::Refused(why) => refused(why),
                 Verdict::Accepted => {
                     let chain = Chain {

@@ -12,8 +12,7 @@ ghost use lib.ListN.{length};
 ghost use Rattle.refusals.specs.Number.{verdictOf};
 ghost use Rattle.rules.specs.Limits.{mostPanel};
 ghost use Rattle.rules.specs.Lists.{anyPair};
-ghost use Rattle.rules.specs.Chain.{badOpenLists, badBase, badShares, badRelative};
-ghost use Rattle.openinput.specs.Input.{inputRefusal};
+ghost use Rattle.rules.specs.Chain.{badOpenLists, badBase, badShares, badRelative, openInputRefusal};
 
 // 9: lists empty, over a panel, or unequal to each other.
 fn bad_lists(w: &[u64], g: &[u32], a: &[u32]) -> bool
@@ -83,7 +82,7 @@ fn any_bad_update(g: &[u32], a: &[u32]) -> bool
 
 // 9 to 13.
 pub fn judge_input(w: &[u64], g: &[u32], a: &[u32], start: u64) -> Verdict
-    ensures { λ r. ⌜ verdictOf r ≡ inputRefusal (now (w .entry)) (now (g .entry)) (now (a .entry)) start 0 ⌝ }
+    ensures { λ r. ⌜ verdictOf r ≡ openInputRefusal (now (w .entry)) (now (g .entry)) (now (a .entry)) start ⌝ }
 {
     if bad_lists(w, g, a) {
         return Verdict::Refused(Refusal::UnitLists);

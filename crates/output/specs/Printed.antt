@@ -5,26 +5,28 @@ use mathlib.Core.Bool.{cond}
 use mathlib.Core.List.{List}
 use lib.ListN.{length}
 use lib.Dec.{ltb}
-use Rattle.rules.specs.Refusals.{refuse, _then_}
+use Rattle.rules.specs.Refusals.{Judged, refuse, judged, written}
 use Rattle.rules.specs.Job.{output}
 use Rattle.refusals.specs.Number.{numberOf}
 use Rattle.decimal.specs.Put.{laidAt}
-use Rattle.texts.specs.Text.{onto}
 use Rattle.output.specs.declared.Answer.{Answer}
 use Rattle.output.specs.declared.Answer.the-variants.{Laid, Refused}
 
--- 6 where the buffer is shorter than the text, 0: the text is laid
 unfoldable pub printRefusal : List ℕ → List ℕ → ℕ
-printRefusal stream out = refuse (ltb (length out) (length (output stream))) 6 0
+printRefusal stream out = refuse (ltb (length out) (length (output stream))) 6
 
--- the buffer afterwards: the text at its front, or as it was
+-- the bytes of the text where it is laid; a refusal answers its number alone
+unfoldable pub printAnswer : List ℕ → List ℕ → Judged ℕ
+printAnswer stream out = judged (printRefusal stream out) (length (output stream))
+
+-- the buffer afterwards
 unfoldable pub printedOn : List ℕ → List ℕ → List ℕ
-printedOn stream out = cond (ltb (length out) (length (output stream))) out (onto (output stream) out)
+printedOn stream out = written (printRefusal stream out) (output stream) out
 
--- document 01's number of the code's answer
-abbrev pub refusalIn : Answer → ℕ
-refusalIn Laid = 0
-refusalIn (Refused why) = numberOf why
+-- the code's answer, a refusal by its number
+abbrev pub answerFrom : Answer → Judged ℕ
+answerFrom (Laid bytes) = Judged.given bytes
+answerFrom (Refused why) = Judged.refused (numberOf why)
 
 -- the buffer with a part of the text from the place at on; it stays where the part has no room
 unfoldable pub fitted : ℕ → List ℕ → List ℕ → List ℕ
@@ -33,4 +35,4 @@ fitted at part out = cond (ltb (length out) (at + length part)) out (laidAt at p
 -- what a pass over the stream leaves: the bytes of its text, and the text in a buffer that has room for it
 pub record Passed (stream before after : List ℕ) (bytes : ℕ) : Type 0 where
   pub count : bytes ≡ length (output stream)
-  pub text : length (output stream) ≤ length before → after ≡ onto (output stream) before
+  pub text : length (output stream) ≤ length before → after ≡ written 0 (output stream) before

@@ -1,5 +1,5 @@
 // Document 01, "Job stream": all that a stream prints, laid into a lent buffer. The first of two passes over the turns (`run`) only counts, since a
-// buffer that is too short is to stay as it was.
+// buffer that is too short is to stay as it was; the count is an answer of its own.
 use refusals::Refusal;
 use texts::TEXT_ROOM;
 ghost use mathlib.Core.Path.{_≡_};
@@ -7,18 +7,12 @@ ghost use Prim.Native.Nat.{_≤_};
 ghost use lib.ListN.{length, take};
 ghost use Rattle.rules.specs.Job.{output};
 ghost use Rattle.lines.specs.Laid.{panelRoom};
-ghost use Rattle.output.specs.Printed.{printRefusal, printedOn, refusalIn, fitted, Passed};
+ghost use Rattle.output.specs.Printed.{printAnswer, printedOn, answerFrom, fitted, Passed};
 
-// Whether the text stands in the buffer.
+// The bytes of the text that stands in the buffer.
 pub enum Answer {
-    Laid,
+    Laid(usize),
     Refused(Refusal),
-}
-
-// The answer, and the bytes of the whole text in either case.
-pub struct Printed {
-    pub answer: Answer,
-    pub length: usize,
 }
 
 fn text_room() -> [u8; TEXT_ROOM]
@@ -64,26 +58,28 @@ fn pass(stream: &[u8], out: &mut [u8]) -> usize
         }
         let next = turned.job;
         held = next;
-        let rest = stream::rest(unread);
+        let rest = front::unread(unread);
         unread = rest;
     }
 }
 
-// The whole text of a stream at the front of a lent buffer, and its bytes.
-pub fn print(stream: &[u8], out: &mut [u8]) -> Printed
-    ensures { λ r. ⌜ (refusalIn (r .answer) ≡ printRefusal (now (stream .entry)) (now (out .entry))) × (r .length ≡ length (output (now (stream .entry)))) ⌝ }
+// The bytes of all that a stream prints, and so of the buffer that `print` takes.
+pub fn count(stream: &[u8]) -> usize
+    ensures { λ r. ⌜ r ≡ length (output (now (stream .entry))) ⌝ }
+{
+    let mut nothing = [0u8; 1];
+    pass(stream, &mut nothing[..0])
+}
+
+// The whole text of a stream at the front of a lent buffer.
+pub fn print(stream: &[u8], out: &mut [u8]) -> Answer
+    ensures { λ r. ⌜ answerFrom r ≡ printAnswer (now (stream .entry)) (now (out .entry)) ⌝ }
     ensures { λ _. ⌜ now (out .exit) ≡ printedOn (now (stream .entry)) (now (out .entry)) ⌝ }
 {
-    let length = pass(stream, &mut out[..0]);
-    if out.len() < length {
-        return Printed {
-            answer: Answer::Refused(Refusal::ResultBuffer),
-            length,
-        };
+    let bytes = count(stream);
+    if out.len() < bytes {
+        return Answer::Refused(Refusal::ResultBuffer);
     }
     pass(stream, out);
-    Printed {
-        answer: Answer::Laid,
-        length,
-    }
+    Answer::Laid(bytes)
 }

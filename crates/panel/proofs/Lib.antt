@@ -1,3 +1,4 @@
-pub mod Next
 pub mod Panel
 pub mod Short
+pub mod Next
+pub mod Writing

@@ -1,14 +1,19 @@
--- What the writing of the panel asks for and keeps.
+-- What the writing of the panel asks for, keeps and leaves in the buffers.
 use mathlib.Core.Path.{_≡_}
 use mathlib.Core.List.{List}
-use Prim.Native.Nat.{ℕ, _≤_, _<_}
+use Prim.Native.Nat.{ℕ, _+_, _≤_, _<_}
 use lib.ListN.{length, getD}
-use Rattle.rules.specs.Selection.{every}
-use Rattle.rules.specs.TakeAll.{larger}
+use Rattle.rules.specs.Refusals.{written}
+use Rattle.rules.specs.Selection.{listed, every}
+use Rattle.rules.specs.TakeAll.{frame, larger}
+use Rattle.rules.specs.Draw.{drawnBy, panelNumbers, panelWeights}
 use Rattle.selection.specs.Ranked.{Ranked}
 use Rattle.group.specs.declared.Group.{Group}
-use Rattle.terms.specs.Terms.{outside}
-use Rattle.ranking.specs.Sampling.{keyOrder}
+use Rattle.group.specs.Group.{rulesGroup}
+use Rattle.terms.specs.Terms.{unnumbered}
+use Rattle.shortlist.specs.declared.Found.{Found}
+use Rattle.shortlist.specs.Found.{passing, Passing}
+use Rattle.ranking.specs.Sampling.{InKeyOrder}
 
 -- r is the smallest of the first `len` units that is `from` or higher, or `end` where none such is below it
 pub record Next (units : List ℕ) (len from end r : ℕ) : Type 0 where
@@ -21,4 +26,16 @@ pub record Arrays (ts rs : List ℕ) (g : Group) (start : ℕ) (large sampled : 
   pub large-room : g .q ≤ length large
   pub large-ranked : Ranked every (larger ts) (length ts) large (g .q)
   pub sampled-room : g .n ≤ length sampled
-  pub sampled-ranked : Ranked (outside ts g) (keyOrder ts rs g start) (length ts) sampled (g .n)
+  pub sampled-ranked : InKeyOrder ts rs g start (length ts) sampled (g .n)
+
+-- a short list whose units within the bound are the panel's
+pub record Draws (ts rs : List ℕ) (g : Group) (start : ℕ) (r : Found) : Type 0 where
+  pub list : Passing (length ts) r (g .q + g .n)
+  pub are : (f : ℕ → ℕ) → listed (passing r) (λ j. f (getD (r .units) j 0)) (r .count) ≡ listed (drawnBy (unnumbered ts rs) (rulesGroup ts g) start) f (length ts)
+
+-- the panel in the first places of a buffer: its unit numbers, and their W
+abbrev pub numbersOver : List ℕ → List ℕ → List ℕ → Group → ℕ → List ℕ → List ℕ
+numbersOver ns ts rs g start buffer = written 0 (panelNumbers (frame ns ts rs) (rulesGroup ts g) start) buffer
+
+abbrev pub weightsOver : List ℕ → List ℕ → List ℕ → Group → ℕ → List ℕ → List ℕ
+weightsOver ns ts rs g start buffer = written 0 (panelWeights (frame ns ts rs) (rulesGroup ts g) start) buffer

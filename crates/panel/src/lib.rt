@@ -6,16 +6,12 @@ pub mod told;
 use group::Group;
 use shortlist::Found;
 ghost use mathlib.Core.Path.{_≡_};
-ghost use mathlib.Core.List.{_++_};
 ghost use Prim.Native.Nat.{_+_, _<_, _≤_};
-ghost use lib.ListN.{length, getD, drop};
-ghost use Rattle.rules.specs.Selection.{listed};
+ghost use lib.ListN.{length};
 ghost use Rattle.rules.specs.TakeAll.{baseWeight};
-ghost use Rattle.rules.specs.Draw.{drawnBy};
 ghost use Rattle.group.specs.Group.{rulesGroup};
-ghost use Rattle.terms.specs.Terms.{unnumbered, Ready};
-ghost use Rattle.shortlist.specs.Found.{passing, Passing};
-ghost use Rattle.panel.specs.Panel.{Next, Arrays};
+ghost use Rattle.terms.specs.Terms.{Ready};
+ghost use Rattle.panel.specs.Panel.{Next, Arrays, Draws, numbersOver, weightsOver};
 
 // The smallest of the first len units that is `from` or higher, or `end` where none such is below it.
 fn next_unit(units: &[usize], len: usize, from: usize, end: usize) -> usize
@@ -64,8 +60,8 @@ pub fn write_panel(
 )
     requires { ⌜ Ready (now turnovers) (now randoms) g start × Arrays (now turnovers) (now randoms) g start (now largest) (now sampled) ⌝ }
     requires { ⌜ (length (now numbers) ≡ length (now turnovers)) × (g .q + g .n ≤ length (now panel)) × (g .q + g .n ≤ length (now weights)) ⌝ }
-    ensures { λ _. ⌜ now (panel .exit) ≡ listed (drawnBy (unnumbered (now (turnovers .entry)) (now (randoms .entry))) (rulesGroup (now (turnovers .entry)) g) start) (λ i. getD (now (numbers .entry)) i 0) (length (now (turnovers .entry))) ++ drop (g .q + g .n) (now (panel .entry)) ⌝ }
-    ensures { λ _. ⌜ now (weights .exit) ≡ listed (drawnBy (unnumbered (now (turnovers .entry)) (now (randoms .entry))) (rulesGroup (now (turnovers .entry)) g) start) (baseWeight (now (turnovers .entry)) (rulesGroup (now (turnovers .entry)) g)) (length (now (turnovers .entry))) ++ drop (g .q + g .n) (now (weights .entry)) ⌝ }
+    ensures { λ _. ⌜ now (panel .exit) ≡ numbersOver (now (numbers .entry)) (now (turnovers .entry)) (now (randoms .entry)) g start (now (panel .entry)) ⌝ }
+    ensures { λ _. ⌜ now (weights .exit) ≡ weightsOver (now (numbers .entry)) (now (turnovers .entry)) (now (randoms .entry)) g start (now (weights .entry)) ⌝ }
 {
     let size = g.q + g.n;
     let mut from: usize = 0;
@@ -91,10 +87,10 @@ pub fn write_found(
     panel: &mut [u32],
     weights: &mut [u64],
 )
-    requires { ⌜ Ready (now turnovers) (now randoms) g start × Passing (length (now turnovers)) found (g .q + g .n) ⌝ }
+    requires { ⌜ Ready (now turnovers) (now randoms) g start × Draws (now turnovers) (now randoms) g start found ⌝ }
     requires { ⌜ (length (now numbers) ≡ length (now turnovers)) × (g .q + g .n ≤ length (now panel)) × (g .q + g .n ≤ length (now weights)) ⌝ }
-    ensures { λ _. ⌜ now (panel .exit) ≡ listed (passing found) (λ j. getD (now (numbers .entry)) (getD (found .units) j 0) 0) (found .count) ++ drop (g .q + g .n) (now (panel .entry)) ⌝ }
-    ensures { λ _. ⌜ now (weights .exit) ≡ listed (passing found) (λ j. baseWeight (now (turnovers .entry)) (rulesGroup (now (turnovers .entry)) g) (getD (found .units) j 0)) (found .count) ++ drop (g .q + g .n) (now (weights .entry)) ⌝ }
+    ensures { λ _. ⌜ now (panel .exit) ≡ numbersOver (now (numbers .entry)) (now (turnovers .entry)) (now (randoms .entry)) g start (now (panel .entry)) ⌝ }
+    ensures { λ _. ⌜ now (weights .exit) ≡ weightsOver (now (numbers .entry)) (now (turnovers .entry)) (now (randoms .entry)) g start (now (weights .entry)) ⌝ }
 {
     let units = found.units;
     let parts = found.parts;

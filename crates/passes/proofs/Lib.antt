@@ -1,2 +1,1 @@
 pub mod Relatives
-pub mod Refusals

@@ -6,13 +6,12 @@ use refusals::Verdict;
 use weights::bad_relative;
 use weights::bad_weight;
 ghost use mathlib.Core.Path.{_≡_};
-ghost use Prim.Native.Nat.{_+_, _<_, _^_, min};
+ghost use Prim.Native.Nat.{_+_, _<_, _≤_, _^_, min};
 ghost use lib.ListN.{length};
 ghost use Rattle.refusals.specs.Number.{verdictOf};
 ghost use Rattle.rules.specs.Limits.{mostWeight};
 ghost use Rattle.rules.specs.Lists.{sum, products, scaled, anyPair};
-ghost use Rattle.rules.specs.Chain.{badRelative, badWeight};
-ghost use Rattle.passes.specs.WeightRefusal.{weightRefusal};
+ghost use Rattle.rules.specs.Chain.{badRelative, badWeight, weightRefusal};
 
 // The sum of the weights, cut off above the limit so that no list makes it wrap.
 pub fn capped_sum(weights: &[u64]) -> u64
@@ -87,16 +86,16 @@ pub fn weighted_sums(v: &[u64], p: &[u32]) -> Sums
     }
 }
 
-// Each v to floor(v × p / scale), where it lies.
-pub fn rescale(v: &mut [u64], p: &[u32], scale: u64)
-    requires { ⌜ (length (now v) ≡ length (now p)) × (sum (products (now v) (now p)) < 2 ^ 64) × (0 < scale) ⌝ }
-    ensures { λ _. ⌜ now (v .exit) ≡ scaled scale (now (v .entry)) (now (p .entry)) ⌝ }
+// floor(v × p / scale) of each p, laid into places of its own. There may be more v than p.
+pub fn scale_into(v: &[u64], p: &[u32], scale: u64, out: &mut [u64])
+    requires { ⌜ (length (now p) ≤ length (now v)) × (length (now out) ≡ length (now p)) × (sum (products (now v) (now p)) < 2 ^ 64) × (0 < scale) ⌝ }
+    ensures { λ _. ⌜ now (out .exit) ≡ scaled scale (now (v .entry)) (now (p .entry)) ⌝ }
 {
     let mut i: usize = 0;
-    while i < v.len() {
+    while i < p.len() {
         let x = v[i];
         let moved = x * (p[i] as u64) / scale;
-        v[i] = moved;
+        out[i] = moved;
         i += 1;
     }
 }
@@ -104,7 +103,7 @@ pub fn rescale(v: &mut [u64], p: &[u32], scale: u64)
 // 21 and 22 of the weights that an open or a close would leave.
 pub fn judge_weights(marks: &[u64], weights: &[u64]) -> Verdict
     requires { ⌜ length (now marks) ≡ length (now weights) ⌝ }
-    ensures { λ r. ⌜ verdictOf r ≡ weightRefusal (now (marks .entry)) (now (weights .entry)) 0 ⌝ }
+    ensures { λ r. ⌜ verdictOf r ≡ weightRefusal (now (marks .entry)) (now (weights .entry)) ⌝ }
 {
     if any_low(marks, weights) {
         return Verdict::Refused(Refusal::LowWeight);

@@ -1,9 +1,9 @@
 // Document 01, "Chain record": a relative is in ten-thousandths, "and the range belongs to the relative itself".
 ghost use mathlib.Core.Path.{_≡_};
-ghost use Rattle.relative.specs.Checked.{checkedOf};
+ghost use Rattle.relative.specs.Checked.{answerFrom, checkedAnswer};
 
-// A price relative that is known to be in range.
-pub struct Relative(pub u32);
+// A price relative that is known to be in range: its number is private, so that no other crate makes one but by `new`.
+pub struct Relative(u32);
 
 pub enum Checked {
     Valid(Relative),
@@ -18,9 +18,8 @@ impl Relative {
     // A relative of 1. Weights are 64-bit, and so is what divides them.
     pub const SCALE: u64 = 10000;
 
-    // The only way to a relative that is not a plain number.
     pub fn new(x: u32) -> Checked
-        ensures { λ r. ⌜ r ≡ checkedOf x ⌝ }
+        ensures { λ r. ⌜ answerFrom r ≡ checkedAnswer x ⌝ }
     {
         if x < Relative::LOWEST {
             return Checked::OutOfRange;

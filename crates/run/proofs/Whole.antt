@@ -1,123 +1,135 @@
 -- THE WHOLE STREAM. What a run prints (specs/Run.antt: turns that each meet the contract of `turn`, from the empty job and the whole stream until one
 -- does not go on) is what `rules` says the stream prints. Each turn takes a command, so that the commands are fewer than the bytes.
 use Prim.Native.Nat.{ℕ, zero, suc, _-_, _≤_, _<_}
-use mathlib.Core.Bool.{Bool, true, false, cond}
+use mathlib.Core.Bool.{Bool, true, false, cond, false≢true}
 use mathlib.Core.Path.{_≡_, refl, sym, ap, ap₂, _∙_}
 use mathlib.Core.List.{List, [], _++_, append-nil}
 use lib.ListN.{length, take, drop, length-append}
 use lib.Seq.{take-at, take-all, length-take-le}
-use lib.Dec.{ltb}
 use native.Mathlib.Omega.{arith}
-use borrow.Author.Tests.{lt-ltb, le-ltb, ltb-true, ltb-false}
+use borrow.Author.Tests.{lt-ltb, le-ltb}
 use Rattle.rules.specs.Limits.{mostStream}
-use Rattle.rules.specs.Stream.{reading, restOf}
+use Rattle.rules.specs.Refusals.{Judged, refuse, _then_}
+use Rattle.rules.specs.Stream.{Front, readingRefusal, reading, restOf}
 use Rattle.rules.specs.Lines.{refusalLine}
-use Rattle.rules.specs.Job.{Job, Saying, emptyJob, step, textOf, printedBy, printed, output}
+use Rattle.rules.specs.Job.{Job, Saying, emptyJob, step, printedBy, frontPrinted, printed, output}
+use Rattle.rules.proofs.Tests.{by-order}
 use Rattle.stream.proofs.Unread.{rest-shorter as shorter}
+use Rattle.jobstate.specs.declared.Job as code
 use Rattle.jobstate.specs.State.{jobOf}
 use Rattle.run.specs.declared.Turned.{Turned}
-use Rattle.texts.specs.Text.{continues}
+use Rattle.texts.specs.Text.{continues, textAt}
 use Rattle.run.specs.Turn.{Turn, turnBy, turnOf, Renders}
-use Rattle.run.specs.Run.{Run, stops, goesOn as again}
+use Rattle.run.specs.Run.{Run, stops, goesOn}
 
--- what is printed after a command, by whether the stream goes on
-follows : (says : Saying) (later : List ℕ) → goesOn says later ≡ cond (continues says) later []
-follows (Saying.refused n) later = refl
-follows Saying.nothing later = refl
-follows (Saying.panelDrawn numbers weights) later = refl
-follows (Saying.quarterFigure f) later = refl
-follows (Saying.closeFigure f) later = refl
+-- what a turn's text is followed by
+abbrev thenPrinted : Turn → (Job → List ℕ) → List ℕ
+thenPrinted t later = t .text ++ cond (t .more) (later (t .job)) []
 
-by-turn : (r : Reading) (offset : ℕ) (j : Job) (later : Job → List ℕ) → printedBy r offset j later ≡ turnBy r offset j .text ++ cond (turnBy r offset j .more) (later (turnBy r offset j .job)) []
-by-turn (Reading.refused k) offset j later = sym (append-nil (refusalLine k offset))
-by-turn Reading.ended offset j later = refl
-by-turn (Reading.command c) offset j later = ap (λ (l : List ℕ). textOf (step j c .says) offset ++ l) (follows (step j c .says) (later (step j c .job)))
+-- what a command prints, and what follows it
+by-saying : (says : Judged Saying) (offset : ℕ) (later : List ℕ) → printedBy says offset later ≡ textAt says offset ++ cond (continues says) later []
+by-saying (Judged.refused n) offset later = sym (append-nil (refusalLine n offset))
+by-saying (Judged.given s) offset later = refl
+
+by-front : (r : Judged Front) (offset : ℕ) (j : Job) (later : Job → List ℕ) → frontPrinted r offset j later ≡ thenPrinted (turnBy r offset j) later
+by-front (Judged.refused k) offset j later = sym (append-nil (refusalLine k offset))
+by-front (Judged.given Front.ended) offset j later = refl
+by-front (Judged.given (Front.command c)) offset j later = by-saying (step j c .says) offset (later (step j c .job))
 
 -- a stream prints what its first turn prints, and then what the rest prints
-pub by-turns : (n most : ℕ) (s : List ℕ) (j : Job) → printed n (suc most) s j ≡ turnOf n s j .text ++ cond (turnOf n s j .more) (printed n most (restOf s) (turnOf n s j .job)) []
+by-turns : (n most : ℕ) (s : List ℕ) (j : Job) → printed n (suc most) s j ≡ thenPrinted (turnOf n s j) (printed n most (restOf s))
 unfolding printed turnOf
-by-turns n most s j = by-turn (reading s) (n - length s) j (λ k. printed n most (restOf s) k)
+by-turns n most s j = by-front (reading s) (n - length s) j (λ k. printed n most (restOf s) k)
 
--- a turn that goes on has read a command, and so the rest is shorter
+-- 15: no command is read of a part over the limit
+too-long : (s : List ℕ) → mostStream < length s → reading s ≡ Judged.refused 15
+unfolding reading readingRefusal refuse _then_
+too-long s h = rw (lt-ltb mostStream (length s) h)
+
+-- a turn that goes on has read a command, of a part within the limit, and so the rest is shorter
+pub within-limit : (n : ℕ) (s : List ℕ) (j : Job) → turnOf n s j .more ≡ true → length s ≤ mostStream
+unfolding turnOf
+within-limit n s j e =
+    by-order mostStream (length s)
+    (λ long. absurd (false≢true (sym (ap (λ (r : Judged Front). turnBy r (n - length s) j .more) (too-long s long)) ∙ e)))
+    (λ short. short)
+
 pub rest-shorter : (n : ℕ) (s : List ℕ) (j : Job) → turnOf n s j .more ≡ true → length (restOf s) < length s
 unfolding turnOf
 rest-shorter n s j e = go (reading s) refl e
   where
-    go : (r : Reading) → reading s ≡ r → turnBy r (n - length s) j .more ≡ true → length (restOf s) < length s
-    go (Reading.refused k) q o = let no : _≡_ {A = ℕ} 0 1 = cc in absurd (omega arith)
-    go Reading.ended q o = let no : _≡_ {A = ℕ} 0 1 = cc in absurd (omega arith)
-    go (Reading.command c) q o = shorter s c q
+    go : (r : Judged Front) → reading s ≡ r → turnBy r (n - length s) j .more ≡ true → length (restOf s) < length s
+    go (Judged.refused k) q o = let no : _≡_ {A = ℕ} 0 1 = cc in absurd (omega arith)
+    go (Judged.given Front.ended) q o = let no : _≡_ {A = ℕ} 0 1 = cc in absurd (omega arith)
+    go (Judged.given (Front.command c)) q o = shorter s c q
 
--- the bytes that a turn's caller prints are the turn's text
-pub shown : (t : Turn) (r : Turned) (before after : List ℕ) → Renders t r before after → take (r .count) after ≡ t .text
-shown t r before after h =
-    ap (λ (m : ℕ). take m after) (h .count) ∙ ap (λ (l : List ℕ). take (length (t .text)) l) (h .text)
-    ∙ take-at (t .text) (drop (length (t .text)) before) (length (t .text)) refl
+module _ {n : ℕ} {s : List ℕ} {j : code.Job} (r : Turned) (before after : List ℕ) (h : Renders n s j r before after) where
+  abbrev turn : Turn
+  turn = turnOf n s (jobOf j)
 
--- and they are all in the buffer
-pub count-within : {t : Turn} (r : Turned) (before after : List ℕ) → Renders t r before after → r .count ≤ length after
-count-within {t} r before after h =
-    omega (arith, h .count, ap length (h .text), length-append (t .text) (drop (length (t .text)) before))
+  -- the bytes that a turn's caller prints are the turn's text
+  pub shown : take (r .count) after ≡ turn .text
+  shown =
+      ap₂ (λ (m : ℕ) (l : List ℕ). take m l) (h .count) (h .text)
+      ∙ take-at (turn .text) (drop (length (turn .text)) before) (length (turn .text)) refl
 
-module _ (n : ℕ) (s : List ℕ) (j : Job) (r : Turned) (before after : List ℕ) (h : Renders (turnOf n s j) r before after) where
-  last-turn : (most : ℕ) → length s < most → r .more ≡ false → take (r .count) after ≡ printed n most s j
-  last-turn zero l e = absurd (omega arith)
-  last-turn (suc most) l e =
-      shown (turnOf n s j) r before after h
-      ∙ sym (append-nil (turnOf n s j .text))
-      ∙ ap (λ (b : Bool). turnOf n s j .text ++ cond b (printed n most (restOf s) (turnOf n s j .job)) []) (sym e ∙ h .goes)
-      ∙ sym (by-turns n most s j)
+  -- and they are all in the buffer
+  pub count-within : r .count ≤ length after
+  count-within = omega (arith, h .count, ap length (h .text), length-append (turn .text) (drop (length (turn .text)) before))
 
-  next-turn : (most : ℕ) (later : List ℕ) → length s < most → r .more ≡ true → ((m : ℕ) → length (restOf s) < m → later ≡ printed n m (restOf s) (jobOf (r .job))) → take (r .count) after ++ later ≡ printed n most s j
-  next-turn zero later l e rest = absurd (omega arith)
-  next-turn (suc most) later l e rest =
-      let fewer : length (restOf s) < most = omega (arith, rest-shorter n s j (sym (h .goes) ∙ e)) in
-      let text = shown (turnOf n s j) r before after h in
-      let after-it : later ≡ printed n most (restOf s) (turnOf n s j .job) = rest most fewer ∙ ap (printed n most (restOf s)) (h .next) in
-      ap₂ (λ (a b : List ℕ). a ++ b) text after-it
-      ∙ ap (λ (b : Bool). turnOf n s j .text ++ cond b (printed n most (restOf s) (turnOf n s j .job)) []) (sym e ∙ h .goes)
-      ∙ sym (by-turns n most s j)
+  -- what a stream prints from this turn on, by whether the code says that there is a next
+  pub from-turn : (most : ℕ) → printed n (suc most) s (jobOf j) ≡ take (r .count) after ++ cond (r .more)
+      (printed n most (restOf s) (jobOf (r .job))) []
+  from-turn most =
+      by-turns n most s (jobOf j)
+      ∙ ap₂ (λ (t u : List ℕ). t ++ u) (sym shown)
+      (ap₂ (λ (b : Bool) (k : Job). cond b (printed n most (restOf s) k) []) (sym (h .goes)) (sym (h .next)))
 
 -- a run prints what its unread part prints; `most` bounds the commands
-prints : (n : ℕ) {s : List ℕ} {j : Job} {text : List ℕ} → Run n s j text → (most : ℕ) → length s < most → text ≡ printed n most s j
-prints n (stops {s} {j} r before after h e) most l = last-turn n s j r before after h most l e
-prints n (again {s} {j} {later} r before after h e rest) most l =
-    next-turn n s j r before after h most later l e (λ m k. prints n rest m k)
+prints : (n : ℕ) {s : List ℕ} {j : code.Job} {text : List ℕ} → Run n s j text → (most : ℕ) → length s < most → text ≡ printed n most s (jobOf j)
+prints n (stops r before after h e) zero l = absurd (omega arith)
+prints n (stops {s} {j} r before after h e) (suc most) l =
+    sym (append-nil (take (r .count) after))
+    ∙ ap (λ (b : Bool). take (r .count) after ++ cond b (printed n most (restOf s) (jobOf (r .job))) []) (sym e)
+    ∙ sym (from-turn r before after h most)
+prints n (goesOn r before after h e rest) zero l = absurd (omega arith)
+prints n (goesOn {s} {j} r before after h e rest) (suc most) l =
+    let fewer : length (restOf s) < most = omega (arith, rest-shorter n s (jobOf j) (sym (h .goes) ∙ e)) in
+    ap (λ (u : List ℕ). take (r .count) after ++ u) (prints n rest most fewer)
+    ∙ ap (λ (b : Bool). take (r .count) after ++ cond b (printed n most (restOf s) (jobOf (r .job))) []) (sym e)
+    ∙ sym (from-turn r before after h most)
 
--- 15: a stream over the limit prints `R 15 0` alone, by its first turn too
-over-limit : (n most : ℕ) (s : List ℕ) (j : Job) → n ≡ length s → mostStream < length s → printed n (suc most) s j ≡ refusalLine 15 0
-unfolding printed reading
-over-limit n most s j e h =
-    let start : n - length s ≡ 0 = omega arith in
-    rw (lt-ltb mostStream (length s) h) (ap (refusalLine 15) start)
-
+-- a stream over the limit prints `R 15 0` alone, by its first turn too
 module _ (stream : List ℕ) where
-  within : length stream ≤ mostStream → output stream ≡ printed (length stream) (suc (length stream)) stream emptyJob
-  unfolding output
-  within h = rw (le-ltb mostStream (length stream) h)
+  over-limit : (j : Job) → mostStream < length stream → printed (length stream) (suc (length stream)) stream j ≡ refusalLine 15 0
+  unfolding printed
+  over-limit j h =
+      let start : length stream - length stream ≡ 0 = omega arith in
+      let later = printed (length stream) (length stream) (restOf stream) in
+      ap (λ (r : Judged Front). frontPrinted r (length stream - length stream) j later) (too-long stream h)
+      ∙ ap (refusalLine 15) start
 
   over : mostStream < length stream → output stream ≡ refusalLine 15 0
   unfolding output
   over h = rw (lt-ltb mostStream (length stream) h)
 
+  within : length stream ≤ mostStream → output stream ≡ printed (length stream) (suc (length stream)) stream emptyJob
+  unfolding output
+  within h = rw (le-ltb mostStream (length stream) h)
+
   pub by-limit : output stream ≡ printed (length stream) (suc (length stream)) stream emptyJob
-  by-limit = go (ltb mostStream (length stream)) refl
-    where
-      go : (b : Bool) → ltb mostStream (length stream) ≡ b → output stream ≡ printed (length stream) (suc (length stream)) stream emptyJob
-      go true e = over (ltb-true _ _ e) ∙ sym (over-limit (length stream) (length stream) stream emptyJob refl (ltb-true _ _ e))
-      go false e = within (ltb-false _ _ e)
+  by-limit = by-order mostStream (length stream) (λ h. over h ∙ sym (over-limit emptyJob h)) within
 
 -- THE THEOREM: a run from the empty job over the whole stream prints what document 01 says of the stream
-pub whole : (stream text : List ℕ) → Run (length stream) stream emptyJob text → text ≡ output stream
-whole stream text r = prints (length stream) r (suc (length stream)) (omega arith) ∙ sym (by-limit stream)
+pub whole : (stream text : List ℕ) (j : code.Job) → jobOf j ≡ emptyJob → Run (length stream) stream j text → text ≡ output stream
+whole stream text j e r =
+    prints (length stream) r (suc (length stream)) (omega arith) ∙ ap (printed (length stream) (suc (length stream)) stream) e ∙ sym (by-limit stream)
 
 -- The program reads no more than one byte over the limit, which prints the same.
 pub cut : (stream : List ℕ) (room : ℕ) → mostStream < room → output (take room stream) ≡ output stream
-cut stream room h = go (ltb room (length stream)) refl
-  where
-    go : (b : Bool) → ltb room (length stream) ≡ b → output (take room stream) ≡ output stream
-    go true e =
-        let long = ltb-true room (length stream) e in
-        let kept : length (take room stream) ≡ room = length-take-le room stream (omega arith) in
-        over (take room stream) (omega arith) ∙ sym (over stream (omega arith))
-    go false e = ap output (take-all room stream (ltb-false room (length stream) e))
+cut stream room h =
+    by-order room (length stream)
+    (λ long.
+    let kept : length (take room stream) ≡ room = length-take-le room stream (omega arith) in
+    over (take room stream) (omega arith) ∙ sym (over stream (omega arith)))
+    (λ short. ap output (take-all room stream short))

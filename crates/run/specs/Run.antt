@@ -6,11 +6,12 @@ use mathlib.Core.Path.{_≡_}
 use mathlib.Core.List.{List, _++_}
 use lib.ListN.{take}
 use Rattle.rules.specs.Stream.{restOf}
-use Rattle.rules.specs.Job.{Job}
-use Rattle.jobstate.specs.State.{jobOf}
+use Rattle.jobstate.specs.declared.Job.{Job}
 use Rattle.run.specs.declared.Turned.{Turned}
-use Rattle.run.specs.Turn.{turnOf, Renders}
+use Rattle.run.specs.Turn.{Renders}
 
 pub data Run (n : ℕ) : List ℕ → Job → List ℕ → Type 0 where
-  stops : {s : List ℕ} {j : Job} (r : Turned) (before after : List ℕ) → Renders (turnOf n s j) r before after → r .more ≡ false → Run n s j (take (r .count) after)
-  goesOn : {s : List ℕ} {j : Job} {later : List ℕ} (r : Turned) (before after : List ℕ) → Renders (turnOf n s j) r before after → r .more ≡ true → Run n (restOf s) (jobOf (r .job)) later → Run n s j (take (r .count) after ++ later)
+  stops : {s : List ℕ} {j : Job} (r : Turned) (before after : List ℕ) → Renders n s j r before after → r .more ≡ false
+      → Run n s j (take (r .count) after)
+  goesOn : {s : List ℕ} {j : Job} {later : List ℕ} (r : Turned) (before after : List ℕ) → Renders n s j r before after → r .more ≡ true
+      → Run n (restOf s) (r .job) later → Run n s j (take (r .count) after ++ later)

@@ -5,11 +5,14 @@ use mathlib.Core.Bool.{Bool, false}
 use mathlib.Core.Path.{_≡_}
 use mathlib.Core.List.{List, []}
 use lib.ListN.{length}
-use Rattle.rules.specs.Stream.{reading}
+use Rattle.rules.specs.Refusals.{Judged, written}
+use Rattle.rules.specs.Stream.{Front, reading}
 use Rattle.rules.specs.Lines.{refusalLine}
-use Rattle.rules.specs.Job.{Job, Step, step, textOf}
+use Rattle.rules.specs.Job.{Job, Step, step}
+use Rattle.jobstate.specs.declared.Job as code
 use Rattle.jobstate.specs.State.{jobOf}
-use Rattle.texts.specs.Text.{continues, onto}
+use Rattle.jobstate.specs.Steps.{jobAfter, jobNext}
+use Rattle.texts.specs.Text.{continues, textAt}
 use Rattle.run.specs.declared.Turned.{Turned}
 
 -- what a turn prints, the job after it, and whether there is a next turn
@@ -20,20 +23,27 @@ pub record Turn : Type 0 where
 
 -- the turn of a command, by its step
 abbrev pub turnAfter : Step → ℕ → Turn
-turnAfter done offset = record { text = textOf (done .says) offset; job = done .job; more = continues (done .says) }
+turnAfter done offset = record { text = textAt (done .says) offset; job = done .job; more = continues (done .says) }
 
-abbrev pub turnBy : Reading → ℕ → Job → Turn
-turnBy (Reading.refused k) offset j = record { text = refusalLine k offset; job = j; more = false }
-turnBy Reading.ended offset j = record { text = []; job = j; more = false }
-turnBy (Reading.command c) offset j = turnAfter (step j c) offset
+abbrev pub turnBy : Judged Front → ℕ → Job → Turn
+turnBy (Judged.refused k) offset j = record { text = refusalLine k offset; job = j; more = false }
+turnBy (Judged.given Front.ended) offset j = record { text = []; job = j; more = false }
+turnBy (Judged.given (Front.command c)) offset j = turnAfter (step j c) offset
 
 -- the turn at the unread part s of a stream of n bytes; "offset (of the refused command's first byte)"
 unfoldable pub turnOf : ℕ → List ℕ → Job → Turn
 turnOf n s j = turnBy (reading s) (n - length s) j
 
--- what the code hands back, and the text buffer before and after, are those of a turn
-pub record Renders (t : Turn) (r : Turned) (before after : List ℕ) : Type 0 where
-  pub next : jobOf (r .job) ≡ t .job
-  pub goes : r .more ≡ t .more
-  pub count : r .count ≡ length (t .text)
-  pub text : after ≡ onto (t .text) before
+-- the code's job after a turn, every place of it: it stays unless a command was read and accepted
+abbrev pub heldAfter : Judged Front → code.Job → code.Job
+heldAfter (Judged.refused k) j = j
+heldAfter (Judged.given Front.ended) j = j
+heldAfter (Judged.given (Front.command c)) j = jobAfter (step (jobOf j) c .says) j (jobNext j c)
+
+-- what the code hands back, and the text buffer before and after, are those of the turn at s from the job j on
+pub record Renders (n : ℕ) (s : List ℕ) (j : code.Job) (r : Turned) (before after : List ℕ) : Type 0 where
+  pub next : jobOf (r .job) ≡ turnOf n s (jobOf j) .job
+  pub whole : r .job ≡ heldAfter (reading s) j
+  pub goes : r .more ≡ turnOf n s (jobOf j) .more
+  pub count : r .count ≡ length (turnOf n s (jobOf j) .text)
+  pub text : after ≡ written 0 (turnOf n s (jobOf j) .text) before

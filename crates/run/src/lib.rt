@@ -7,8 +7,7 @@ use texts::continues;
 use texts::lay;
 ghost use mathlib.Core.Path.{_≡_};
 ghost use Prim.Native.Nat.{_-_};
-ghost use Rattle.jobstate.specs.State.{jobOf};
-ghost use Rattle.run.specs.Turn.{turnOf, Renders};
+ghost use Rattle.run.specs.Turn.{Renders};
 
 // The job after a turn, the bytes of its text, and whether there is a next turn.
 pub struct Turned {
@@ -29,10 +28,10 @@ fn offset(total: usize, unread: usize) -> usize
 
 // One turn at the unread part s of a stream of total bytes.
 pub fn turn(total: usize, s: &[u8], job: Job, text: &mut [u8; TEXT_ROOM]) -> Turned
-    ensures { λ r. ⌜ Renders (turnOf total (now (s .entry)) (jobOf job)) r (now (text .entry)) (now (text .exit)) ⌝ }
+    ensures { λ r. ⌜ Renders total (now (s .entry)) job r (now (text .entry)) (now (text .exit)) ⌝ }
 {
     let at = offset(total, s.len());
-    let reading = stream::read(s);
+    let reading = front::reading_at(s);
     match reading {
         Reading::Refused(why) => Turned {
             job: job,

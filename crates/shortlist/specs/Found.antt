@@ -3,8 +3,9 @@ use Prim.Native.Nat.{ℕ, _*_, _≤_, _<_}
 use mathlib.Core.Bool.{Bool, true, false}
 use mathlib.Core.Path.{_≡_}
 use mathlib.Core.List.{List}
-use lib.ListN.{length, getD, take}
-use Rattle.rules.specs.Selection.{count, listed}
+use lib.ListN.{length, getD}
+use Rattle.rules.specs.Selection.{count}
+use Rattle.selection.specs.Held.{Held}
 use Rattle.keys.specs.Units.{numOf}
 use Rattle.bounds.specs.declared.Bound.{Bound}
 use Rattle.bounds.specs.Bound.{keyLess, near, partOf, passes, within, mostWord}
@@ -20,8 +21,7 @@ pub record Listed (ts rs gs : List ℕ) (start reach : ℕ) (r : Shortlist) : Ty
   pub room : length (r .units) ≡ listRoom
   pub few : r .count ≤ listRoom
   pub within-frame : r .seen ≤ length ts
-  pub many : r .count ≡ count (near ts rs gs start reach) (r .seen)
-  pub units-are : take (r .count) (r .units) ≡ listed (near ts rs gs start reach) (λ i. i) (r .seen)
+  pub holds : Held (near ts rs gs start reach) (λ i. i) (r .seen) (r .units) (r .count)
 
 -- no numerator of a listed unit's key is above m
 pub record Under (rs gs : List ℕ) (start : ℕ) (units : List ℕ) (m : ℕ) : Type 0 where
@@ -41,7 +41,10 @@ pub record Bounds (ts rs gs : List ℕ) (start z : ℕ) (b : Bound) : Type 0 whe
   pub exactly : count (within ts rs gs start b) (length ts) ≡ z
   pub some : 0 < b .part
   pub fits : (i : ℕ) → i < length ts → near ts rs gs start (b .reach) i ≡ true → numOf rs gs start i * b .scale ≤ mostWord
-  pub apart : (i j : ℕ) → i < length ts → j < length ts → near ts rs gs start (b .reach) i ≡ true → near ts rs gs start (b .reach) j ≡ true → partOf ts rs gs start (b .scale) i ≡ b .part → partOf ts rs gs start (b .scale) j ≡ b .part → i ≤ b .last → b .last < j → keyLess ts rs gs start j i ≡ false
+  pub apart :
+      (i j : ℕ) → i < length ts → j < length ts → near ts rs gs start (b .reach) i ≡ true → near ts rs gs start (b .reach) j ≡ true
+      → partOf ts rs gs start (b .scale) i ≡ b .part → partOf ts rs gs start (b .scale) j ≡ b .part
+      → i ≤ b .last → b .last < j → keyLess ts rs gs start j i ≡ false
 
 -- what is found, where it is sure: the short list of the whole frame with its parts, and a bound of z units
 pub record IsFound (ts rs gs : List ℕ) (start reach z : ℕ) (r : Found) : Type 0 where
@@ -50,8 +53,7 @@ pub record IsFound (ts rs gs : List ℕ) (start reach z : ℕ) (r : Found) : Typ
   pub units-room : length (r .units) ≡ listRoom
   pub parts-room : length (r .parts) ≡ listRoom
   pub few : r .count ≤ listRoom
-  pub many : r .count ≡ count (near ts rs gs start reach) (length ts)
-  pub units-are : take (r .count) (r .units) ≡ listed (near ts rs gs start reach) (λ i. i) (length ts)
+  pub holds : Held (near ts rs gs start reach) (λ i. i) (length ts) (r .units) (r .count)
   pub parts-are : (j : ℕ) → j < r .count → getD (r .parts) j 0 ≡ partOf ts rs gs start (r .bound .scale) (getD (r .units) j 0)
 
 -- the unit at place j of what is found passes

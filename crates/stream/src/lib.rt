@@ -1,10 +1,10 @@
-// Document 01, "Job stream": the command at the front of a part of the stream, and the part after it; refusals 15, 16 and 17.
+// Document 01, "Job stream": the command at the front of a part of the stream, and the bytes that it takes; refusals 15, 16 and 17.
 // Places (18) are judged by the job, which knows the panel.
 use bigendian::two_bytes;
 ghost use mathlib.Core.Path.{_≡_};
 ghost use Prim.Native.Nat.{_≤_};
 ghost use lib.ListN.{length};
-ghost use Rattle.rules.specs.Stream.{widthOf, commandOf, reading, restOf};
+ghost use Rattle.rules.specs.Stream.{widthOf, commandOf, reading};
 ghost use Rattle.stream.specs.Value.{commandFrom, readingFrom, takenOf};
 use bigendian::two_words;
 use bigendian::word;
@@ -120,12 +120,4 @@ pub fn taken(s: &[u8]) -> usize
         Reading::Ended => 0,
         Reading::Refused(_) => 0,
     }
-}
-
-// The unread part of s: what follows its first command, all of s where none was read.
-pub fn rest(s: &[u8]) -> &[u8]
-    ensures { λ r. ⌜ now r ≡ restOf (now (s .entry)) ⌝ }
-{
-    let n = taken(s);
-    &s[n..]
 }

@@ -3,15 +3,13 @@ use group::Group;
 use refusals::Refusal;
 use refusals::Verdict;
 ghost use mathlib.Core.Path.{_≡_};
-ghost use mathlib.Core.Bool.{cond};
-ghost use mathlib.Core.List.{_++_};
 ghost use Prim.Native.Nat.{_≤_};
-ghost use lib.ListN.{length, drop};
-ghost use Rattle.rules.specs.Selection.{every, listed};
-ghost use Rattle.rules.specs.TakeAll.{largest, takeAllRefusal, takeAllAnswer, takeAllMarks};
+ghost use lib.ListN.{length};
+ghost use Rattle.rules.specs.Refusals.{written};
+ghost use Rattle.rules.specs.TakeAll.{takeAllRefusal, takeAllAnswer, takeAllMarks};
 ghost use Rattle.refusals.specs.Number.{verdictOf};
 ghost use Rattle.group.specs.Group.{LastOf};
-ghost use Rattle.takeall.specs.Answer.{answerOf};
+ghost use Rattle.takeall.specs.Answer.{answerFrom, marksOf};
 
 pub enum Answer {
     Taken { q: usize, n: usize, rest: u64 },
@@ -21,7 +19,7 @@ pub enum Answer {
 // A mark for each unit, 1 in the group and 0 outside.
 fn mark(turnovers: &[u64], g: Group, marks: &mut [u8])
     requires { ⌜ (length (now turnovers) ≤ length (now marks)) × LastOf (now turnovers) (g .q) (g .last) ⌝ }
-    ensures { λ _. ⌜ now (marks .exit) ≡ listed every (λ i. cond (largest (now (turnovers .entry)) (g .q) i) 1 0) (length (now (turnovers .entry))) ++ drop (length (now (turnovers .entry))) (now (marks .entry)) ⌝ }
+    ensures { λ _. ⌜ now (marks .exit) ≡ written 0 (marksOf (now (turnovers .entry)) (g .q)) (now (marks .entry)) ⌝ }
 {
     let mut i: usize = 0;
     while i < turnovers.len() {
@@ -55,7 +53,7 @@ fn judge(turnovers: &[u64], z: usize, marks: &[u8]) -> Verdict
 
 // Take-all as an entry of its own: answers q, n and X, and marks each unit in the lent buffer.
 pub fn take_all(turnovers: &[u64], z: usize, marks: &mut [u8]) -> Answer
-    ensures { λ r. ⌜ answerOf r ≡ takeAllAnswer (now (turnovers .entry)) z (now (marks .entry)) ⌝ }
+    ensures { λ r. ⌜ answerFrom r ≡ takeAllAnswer (now (turnovers .entry)) z (now (marks .entry)) ⌝ }
     ensures { λ _. ⌜ now (marks .exit) ≡ takeAllMarks (now (turnovers .entry)) z (now (marks .entry)) ⌝ }
 {
     let verdict = judge(turnovers, z, marks);

@@ -1,3 +1,3 @@
-pub mod Outside
 pub mod ByGaps
 pub mod Terms
+pub mod Accepted

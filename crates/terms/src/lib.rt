@@ -9,8 +9,9 @@ ghost use mathlib.Core.Bool.{true};
 ghost use Prim.Native.Nat.{_*_, _<_, _≤_, _/_};
 ghost use lib.ListN.{length};
 ghost use Rattle.rules.specs.Limits.{mostPanel, mostTurnover, randomRange};
-ghost use Rattle.rules.specs.Draw.{fractionBelow};
-ghost use Rattle.terms.specs.Terms.{outside, Ready, KeyAt, TermsAt};
+ghost use Rattle.rules.specs.Draw.{fractionBelow, notTakeAll};
+ghost use Rattle.group.specs.Group.{rulesGroup};
+ghost use Rattle.terms.specs.Terms.{Ready, KeyAt, TermsAt};
 ghost use Rattle.terms.specs.Gaps.{Gaps};
 
 // A key, num over den, with its whole part.
@@ -29,7 +30,7 @@ pub fn terms_of(
     start: u32,
     i: usize,
 ) -> Fraction
-    requires { ⌜ Ready (now turnovers) (now randoms) g start × (i < length (now turnovers)) × Gaps (now turnovers) g (now gaps) × (outside (now turnovers) g i ≡ true) ⌝ }
+    requires { ⌜ Ready (now turnovers) (now randoms) g start × (i < length (now turnovers)) × Gaps (now turnovers) g (now gaps) × (notTakeAll (rulesGroup (now turnovers) g) i ≡ true) ⌝ }
     ensures { λ f. ⌜ TermsAt (now (turnovers .entry)) (now (randoms .entry)) g start i f ⌝ }
 {
     keys::unit_key(turnovers, randoms, gaps, start, i)
@@ -44,7 +45,7 @@ pub fn key_of(
     start: u32,
     i: usize,
 ) -> Key
-    requires { ⌜ Ready (now turnovers) (now randoms) g start × (i < length (now turnovers)) × Gaps (now turnovers) g (now gaps) × (outside (now turnovers) g i ≡ true) ⌝ }
+    requires { ⌜ Ready (now turnovers) (now randoms) g start × (i < length (now turnovers)) × Gaps (now turnovers) g (now gaps) × (notTakeAll (rulesGroup (now turnovers) g) i ≡ true) ⌝ }
     ensures { λ k. ⌜ KeyAt (now (turnovers .entry)) (now (randoms .entry)) g start i k ⌝ }
 {
     let terms = terms_of(turnovers, randoms, gaps, g, start, i);

@@ -1,18 +1,17 @@
--- Document 01, "Job stream": whether the stream goes on after what a command says, and a text in a buffer.
+-- Document 01, "Job stream": the text of what a command says, and whether the stream goes on after it.
 use mathlib.Core.Bool.{Bool, true, false}
-use mathlib.Core.List.{List, _++_}
+use mathlib.Core.List.{List}
 use Prim.Native.Nat.{ℕ}
-use lib.ListN.{length, drop}
-use Rattle.rules.specs.Job.{Saying}
+use Rattle.rules.specs.Refusals.{Judged}
+use Rattle.rules.specs.Lines.{refusalLine}
+use Rattle.rules.specs.Job.{Saying, textOf}
 
--- "`R number offset` …, after which it stops"
-abbrev pub continues : Saying → Bool
-continues (Saying.refused n) = false
-continues Saying.nothing = true
-continues (Saying.panelDrawn numbers weights) = true
-continues (Saying.quarterFigure f) = true
-continues (Saying.closeFigure f) = true
+-- "`R number offset` (of the refused command's first byte)", or what a command says that is not refused
+abbrev pub textAt : Judged Saying → ℕ → List ℕ
+textAt (Judged.refused n) offset = refusalLine n offset
+textAt (Judged.given says) offset = textOf says
 
--- a text at the front of a buffer, the places after it as they were
-abbrev pub onto : List ℕ → List ℕ → List ℕ
-onto text buffer = text ++ drop (length text) buffer
+-- "… after which it stops"
+abbrev pub continues : Judged Saying → Bool
+continues (Judged.refused n) = false
+continues (Judged.given says) = true

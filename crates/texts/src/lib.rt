@@ -6,9 +6,9 @@ use limits::MOST_PANEL;
 use lines::PANEL_ROOM;
 ghost use mathlib.Core.Path.{_≡_};
 ghost use lib.ListN.{length};
-ghost use Rattle.rules.specs.Job.{textOf};
+ghost use Rattle.rules.specs.Refusals.{written};
 ghost use Rattle.jobstate.specs.State.{sayingFrom};
-ghost use Rattle.texts.specs.Text.{continues, onto};
+ghost use Rattle.texts.specs.Text.{continues, textAt};
 
 // Bytes of the longest text of a command: a line for each unit of a panel.
 pub const TEXT_ROOM: usize = PANEL_ROOM;
@@ -29,7 +29,7 @@ pub fn continues(stepped: Stepped) -> bool
 
 // Lays the text of what a command says, and answers its bytes.
 pub fn lay(text: &mut [u8; TEXT_ROOM], stepped: Stepped, at: usize) -> usize
-    ensures { λ r. ⌜ (r ≡ length (textOf (sayingFrom stepped) at)) × (now (text .exit) ≡ onto (textOf (sayingFrom stepped) at) (now (text .entry))) ⌝ }
+    ensures { λ r. ⌜ (r ≡ length (textAt (sayingFrom stepped) at)) × (now (text .exit) ≡ written 0 (textAt (sayingFrom stepped) at) (now (text .entry))) ⌝ }
 {
     let says = stepped.says;
     match says {

@@ -5,14 +5,16 @@ use mathlib.Core.List.{List}
 use Prim.Native.Nat.{ℕ, _+_, _<_}
 use lib.ListN.{length}
 use Rattle.rules.specs.Selection.{rank}
+use Rattle.rules.specs.Draw.{notTakeAll}
 use Rattle.group.specs.declared.Group.{Group}
-use Rattle.terms.specs.Terms.{outside, KeyAt}
+use Rattle.group.specs.Group.{rulesGroup}
+use Rattle.terms.specs.Terms.{KeyAt}
 use Rattle.ranking.specs.Sampling.{keyOrder}
 use Rattle.threshold.specs.declared.Threshold.{Threshold}
 
 -- t is the last sampled unit and its key, where any is sampled: who does not come after it is sampled
 pub record IsThreshold (ts rs : List ℕ) (g : Group) (start : ℕ) (t : Threshold) : Type 0 where
   pub unit-low : 0 < g .n → t .unit < length ts
-  pub unit-outside : 0 < g .n → outside ts g (t .unit) ≡ true
-  pub rank-is : 0 < g .n → rank (outside ts g) (keyOrder ts rs g start) (length ts) (t .unit) + 1 ≡ g .n
+  pub not-take-all : 0 < g .n → notTakeAll (rulesGroup ts g) (t .unit) ≡ true
+  pub rank-is : 0 < g .n → rank (notTakeAll (rulesGroup ts g)) (keyOrder ts rs g start) (length ts) (t .unit) + 1 ≡ g .n
   pub key-is : 0 < g .n → KeyAt ts rs g start (t .unit) (t .key)

@@ -1,3 +1,2 @@
 pub mod Capped
-pub mod Units
 pub mod Marks

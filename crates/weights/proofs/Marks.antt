@@ -1,15 +1,14 @@
 -- The tests of a weight and a relative (`rules`, Chain) by the unit's mark, 0 or not, as code asks it.
-use mathlib.Core.Path.{_≡_, refl}
+use mathlib.Core.Path.{_≡_, refl, ap, _∙_}
 use mathlib.Core.Bool.{Bool, true, false, not}
 use Prim.Native.Nat.{ℕ, zero, suc}
 use native.Mathlib.Omega.{arith}
 use lib.Dec.{ltb, eqb}
 use Rattle.rules.specs.Limits.{lowestRelative, highestRelative, leastWeight}
 use Rattle.rules.specs.Tests.{outside}
+use Rattle.rules.specs.Refusals.{Judged, refuse, judged}
 use Rattle.rules.specs.Chain.{badRelative, badWeight}
-use Rattle.relative.specs.Checked.{checkedBy}
-use Rattle.relative.specs.declared.Checked.{Checked}
-use Rattle.relative.specs.declared.Checked.the-variants.{Valid, OutOfRange}
+use Rattle.relative.specs.Checked.{checkedAnswer}
 
 pub weight-absent : (mark w : ℕ) → mark ≡ 0 → badWeight mark w ≡ false
 unfolding badWeight
@@ -26,16 +25,17 @@ unfolding badRelative
 relative-absent zero p h = refl
 relative-absent (suc mark) p h = absurd (omega arith)
 
-pub relative-present : (mark p : ℕ) → (mark ≡ 0 → ⊥) → badRelative mark p ≡ outside lowestRelative highestRelative p
+-- a present unit's relative is bad exactly where the checking constructor refuses it
+abbrev isRefused : Judged ℕ → Bool
+isRefused (Judged.given x) = false
+isRefused (Judged.refused n) = true
+
+refused-is : (b : Bool) (x : ℕ) → isRefused (judged (refuse b 13) x) ≡ b
+unfolding refuse
+refused-is true x = refl
+refused-is false x = refl
+
+pub relative-present : (mark p : ℕ) (answer : Judged ℕ) → (mark ≡ 0 → ⊥) → answer ≡ checkedAnswer p → isRefused answer ≡ badRelative mark p
 unfolding badRelative
-relative-present zero p h = absurd (h refl)
-relative-present (suc mark) p h = refl
-
--- whether the checking constructor refused a number
-abbrev pub isOut : Checked → Bool
-isOut (Valid x) = false
-isOut OutOfRange = true
-
-pub out-is : (b : Bool) (x : ℕ) → isOut (checkedBy b x) ≡ b
-out-is true x = refl
-out-is false x = refl
+relative-present zero p answer h e = absurd (h refl)
+relative-present (suc mark) p answer h e = ap isRefused e ∙ refused-is (outside lowestRelative highestRelative p) p

@@ -4,7 +4,7 @@ use limits::LEAST_WEIGHT;
 use relative::Checked;
 use relative::Relative;
 ghost use mathlib.Core.Path.{_≡_};
-ghost use Rattle.rules.specs.Chain.{badUnits, badRelative, badWeight};
+ghost use Rattle.rules.specs.Chain.{badRelative, badWeight};
 
 // 21: a present unit's weight below the least.
 pub fn bad_weight(mark: u64, weight: u64) -> bool

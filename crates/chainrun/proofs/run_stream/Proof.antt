@@ -27,7 +27,7 @@ loop-less c =
     let turned = c .before .before .before .before .before .before .before in
     let at-loop = turned .before .before .loop in
     let more = sym (turned .turn .ensures .goes) ∙ not-false _ (c .before .before .if2 .left) in
-    omega (arith, ap length (c .rest .ensures), rest-shorter _ (at-loop .unread .now) (jobOf (at-loop .held)) more)
+    omega (arith, ap length (c .unread .ensures), rest-shorter _ (at-loop .unread .now) (jobOf (at-loop .held)) more)
 
 pub run-stream-spec : {M : Type 1} → statement M
 run-stream-spec =

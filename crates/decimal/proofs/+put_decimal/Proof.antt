@@ -1,153 +1,50 @@
 -- The digits of a tenth and one more: `put_decimal` calls itself on n / 10, which is smaller, and lays the last digit after them.
-use Prim.Native.Nat.{ℕ, _<_}
-use Prim.Native.Nat.{_^_, _≤_}
+use Prim.Native.Nat.{ℕ, _<_, _≤_, _^_}
 use mathlib.Core.Path.{sym, ap}
 use lib.ListN.{length}
 use native.Mathlib.Omega.{arith}
 use borrow.Author.Needs.{needs}
-use Rattle.decimal.proofs.Laying.{_then_, says}
-use Rattle.decimal.proofs.Digits.{one-digit, one-more, one-more-length}
 use borrow.Fn.Kinds.{In}
 use borrow.Fn.PlainCycle.{Measures, is, falls, and}
+use Rattle.decimal.proofs.Laying.{in-turn, says}
+use Rattle.decimal.proofs.Digits.{one-digit, one-more, one-more-length}
 use Rattle.decimal.proofs.put_decimal.Reads as put-decimal
-use Rattle.decimal.proofs.put_decimal.Kinds as put-decimal-kinds
-use Rattle.decimal.proofs.+put_decimal.Lts-put_decimal as put-decimal-lts
-use Rattle.decimal.proofs.put_byte.Reads as put-byte-reads
+use Rattle.decimal.proofs.put_decimal.Kinds.{ps}
+use Rattle.decimal.proofs.+put_decimal.Lts-put_decimal as lts
+use Rattle.decimal.proofs.put_byte.Reads as put-byte
 use Rattle.decimal.proofs.+put_decimal.{statement}
 use Rattle.decimal.proofs.+put_decimal.Tie.{close}
 
-abbrev μ-put-decimal : Measures 1 put-decimal-kinds.ps ℕ
-μ-put-decimal κs a = a .1 .1 .0
+abbrev μ : Measures 1 ps ℕ
+μ κs a = a .1 .1 .0
 
-abbrev put-decimal-at : ℕ → In 1 put-decimal-kinds.ps
-put-decimal-at t =
-    and 1 put-decimal-kinds.ps (is 1 put-decimal-kinds.ps μ-put-decimal t) put-decimal.Pre
+-- the function at the measure t, and as it may be called there
+abbrev at : ℕ → In 1 ps
+at t = and 1 ps (is 1 ps μ t) put-decimal.Pre
 
-abbrev put-decimal-below : ℕ → In 1 put-decimal-kinds.ps
-put-decimal-below t =
-    and 1 put-decimal-kinds.ps (falls 1 put-decimal-kinds.ps _<_ μ-put-decimal t) put-decimal.Pre
+abbrev below : ℕ → In 1 ps
+below t = and 1 ps (falls 1 ps _<_ μ t) put-decimal.Pre
 
-put-decimal-cast-put-byte : (t : ℕ) → put-decimal-lts.Need-cast-put-byte (
-  put-byte-reads.Asked,
-  put-byte-reads.Learnt,
-  put-decimal-below t,
-  put-decimal.Post,
-) (put-decimal-at t) put-decimal.Post
-put-decimal-cast-put-byte t c = search needs
-
-put-decimal-add-put-byte : (t : ℕ) → put-decimal-lts.Need-add-put-byte (
-  put-byte-reads.Asked,
-  put-byte-reads.Learnt,
-  put-decimal-below t,
-  put-decimal.Post,
-) (put-decimal-at t) put-decimal.Post
-put-decimal-add-put-byte t c = search needs
-
-put-decimal-put-byte-requires : (t : ℕ) → put-decimal-lts.Need-put-byte-requires (
-  put-byte-reads.Asked,
-  put-byte-reads.Learnt,
-  put-decimal-below t,
-  put-decimal.Post,
-) (put-decimal-at t) put-decimal.Post
-put-decimal-put-byte-requires t c κs =
-    let n = c .before .before .before .args .n in
-    let h : n < 10 = omega arith in
-    omega (arith, ap length (one-digit n h))
-
-put-decimal-same-length : (t : ℕ) → put-decimal-lts.Need-same-length (
-  put-byte-reads.Asked,
-  put-byte-reads.Learnt,
-  put-decimal-below t,
-  put-decimal.Post,
-) (put-decimal-at t) put-decimal.Post
-put-decimal-same-length t c = search needs
-
-put-decimal-returns : (t : ℕ) → put-decimal-lts.Need-returns (
-  put-byte-reads.Asked,
-  put-byte-reads.Learnt,
-  put-decimal-below t,
-  put-decimal.Post,
-) (put-decimal-at t) put-decimal.Post
-put-decimal-returns t c =
+returns : (t : ℕ) → lts.Need-returns (put-byte.Asked, put-byte.Learnt, below t, put-decimal.Post) (at t) put-decimal.Post
+returns t c =
     let n = c .before .before .before .before .before .before .args .n in
-    let h : n < 10 = omega arith in
-    says (sym (one-digit n h)) (c .before .before .put-byte .ensures)
+    says (sym (one-digit n (search needs))) (c .before .before .put-byte .ensures)
 
-put-decimal-put-decimal-requires : (t : ℕ) → put-decimal-lts.Need-put-decimal-requires (
-  put-byte-reads.Asked,
-  put-byte-reads.Learnt,
-  put-decimal-below t,
-  put-decimal.Post,
-) (put-decimal-at t) put-decimal.Post
-put-decimal-put-decimal-requires t c κs =
-    let n = c .before .before .before .args .n in
-    let h : 10 ≤ n = omega arith in
-    (search needs, omega (arith, one-more-length n h (omega arith)))
-
-put-decimal-cast-put-byte-2 : (t : ℕ) → put-decimal-lts.Need-cast-put-byte-2 (
-  put-byte-reads.Asked,
-  put-byte-reads.Learnt,
-  put-decimal-below t,
-  put-decimal.Post,
-) (put-decimal-at t) put-decimal.Post
-put-decimal-cast-put-byte-2 t c = search needs
-
-put-decimal-add-put-byte-2 : (t : ℕ) → put-decimal-lts.Need-add-put-byte-2 (
-  put-byte-reads.Asked,
-  put-byte-reads.Learnt,
-  put-decimal-below t,
-  put-decimal.Post,
-) (put-decimal-at t) put-decimal.Post
-put-decimal-add-put-byte-2 t c = search needs
-
-put-decimal-put-byte-requires-2 : (t : ℕ) → put-decimal-lts.Need-put-byte-requires-2 (
-  put-byte-reads.Asked,
-  put-byte-reads.Learnt,
-  put-decimal-below t,
-  put-decimal.Post,
-) (put-decimal-at t) put-decimal.Post
-put-decimal-put-byte-requires-2 t c κs =
-    let n = c .before .before .before .before .before .before .before .args .n in
-    let h : 10 ≤ n = omega arith in
-    omega (arith, one-more-length n h (omega arith))
-
-put-decimal-same-length-2 : (t : ℕ) → put-decimal-lts.Need-same-length-2 (
-  put-byte-reads.Asked,
-  put-byte-reads.Learnt,
-  put-decimal-below t,
-  put-decimal.Post,
-) (put-decimal-at t) put-decimal.Post
-put-decimal-same-length-2 t c = search needs
-
-put-decimal-returns-2 : (t : ℕ) → put-decimal-lts.Need-returns-2 (
-  put-byte-reads.Asked,
-  put-byte-reads.Learnt,
-  put-decimal-below t,
-  put-decimal.Post,
-) (put-decimal-at t) put-decimal.Post
-put-decimal-returns-2 t c =
-    let n = c .before .before .before .before .before .before .before .before .before .before .args .n in
+returns-2 : (t : ℕ) → lts.Need-returns-2 (put-byte.Asked, put-byte.Learnt, below t, put-decimal.Post) (at t) put-decimal.Post
+returns-2 t c =
+    let tenth = c .before .before .before .before .before .before in
+    let n = tenth .before .before .before .before .args .n in
     let h : 10 ≤ n = omega arith in
     let fits : n < 2 ^ 64 = omega arith in
-    says (sym (one-more n h fits)) (_then_ (c .before .before .before .before .before .before .put-decimal .ensures) (c .before .before .put-byte2 .ensures) (omega (arith, one-more-length n h fits)))
+    let size = one-more-length n h fits in
+    says (sym (one-more n h fits)) (in-turn (tenth .put-decimal .ensures) (c .before .before .put-byte2 .ensures) (omega arith))
 
 pub +put-decimal-spec : {M : Type 1} → statement M
-+put-decimal-spec = close μ-put-decimal λ t. put-decimal-lts.spec (
-  put-byte-reads.Asked,
-  put-byte-reads.Learnt,
-  put-decimal-below t,
-  put-decimal.Post,
-)
-    (put-decimal-at t)
-    put-decimal.Post
-    (put-decimal-cast-put-byte t)
-    (put-decimal-add-put-byte t)
-    (put-decimal-put-byte-requires t)
-    (put-decimal-same-length t)
-    (put-decimal-returns t)
-    (put-decimal-put-decimal-requires t)
-    (put-decimal-cast-put-byte-2 t)
-    (put-decimal-add-put-byte-2 t)
-    (put-decimal-put-byte-requires-2 t)
-    (put-decimal-same-length-2 t)
-    (put-decimal-returns-2 t)
++put-decimal-spec = close μ λ t. lts.spec (put-byte.Asked, put-byte.Learnt, below t, put-decimal.Post) (at t) put-decimal.Post
+    (λ c. search needs) (λ c. search needs)
+    (λ c κs. omega (arith, ap length (one-digit (c .before .before .before .args .n) (search needs))))
+    (λ c. search needs) (returns t)
+    (λ c κs. (search needs, omega (arith, one-more-length (c .before .before .before .args .n) (search needs) (search needs))))
+    (λ c. search needs) (λ c. search needs)
+    (λ c κs. omega (arith, one-more-length (c .before .before .before .before .before .before .before .args .n) (search needs) (search needs)))
+    (λ c. search needs) (returns-2 t)

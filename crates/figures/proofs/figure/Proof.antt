@@ -1,64 +1,48 @@
 -- `figure` is F from V and N: relatives in range keep N within 40,000 × V, and so L and C × L below 2^64.
 use native.Mathlib.Omega.{arith}
-use mathlib.Core.Path.{sym, ap, ap₂, _∙_}
-use Prim.Native.Nat.{ℕ, _*_, _/_, _≤_}
 use native.Mathlib.Nat.{mul-le-mul}
-use lib.ListN.{length, take}
+use mathlib.Core.Path.{sym, ap}
+use mathlib.Core.List.{List}
+use Prim.Native.Nat.{ℕ, _*_, _≤_}
+use lib.ListN.{take}
 use lib.Seq.{length-take-le}
-use Rattle.rules.specs.Limits.{highestRelative, linkScale, relativeScale}
-use Rattle.rules.specs.Lists.{products}
+use borrow.Author.Needs.{needs}
+use Rattle.rules.specs.Limits.{highestRelative, linkScale}
+use Rattle.rules.specs.Lists.{sum, products}
 use Rattle.rules.specs.Chain.{link, figureAt}
 use Rattle.passes.specs.declared.Sums.{Sums}
+use Rattle.passes.proofs.Relatives.{products-bound}
 use Rattle.figures.proofs.Reckoning.{mean-most}
-use borrow.Author.Needs.{needs}
 use Rattle.figures.proofs.figure.Statement.{statement}
 use Rattle.figures.proofs.figure.Tie as tie
 
-slice-aggregate-weighted-sums : tie.Need-slice-aggregate-weighted-sums
-slice-aggregate-weighted-sums c =
-    let s = c .before .before .before in
-    sym (length-take-le (s .args .units) (s .args .places .now) (s .pre .0))
+abbrev heldAt : tie.Start → List ℕ
+heldAt s = take (s .args .units) (s .args .places .now)
 
-weighted-sums-requires : tie.Need-weighted-sums-requires
-weighted-sums-requires c κs =
-    let s = c .before .before .before in
-    let held = take (s .args .units) (s .args .places .now) in
-    let ps = s .args .p .now in
-    let h : length ps ≤ length held = omega (arith, s .pre .1 .long) in
-    omega (arith, products-bound held held ps (s .pre .1 .relatives) h)
+products-most : (s : tie.Start) → sum (products (heldAt s) (s .args .p .now)) ≤ highestRelative * sum (heldAt s)
+products-most s = products-bound (heldAt s) (heldAt s) (s .args .p .now) (s .pre .1 .relatives) (omega (arith, s .pre .1 .long))
 
+-- V and N as the sums give them
 link-requires : tie.Need-link-requires
 link-requires c κs =
     let s = c .before .before .before .before in
-    let held = take (s .args .units) (s .args .places .now) in
-    let ps = s .args .p .now in
-    let h : length ps ≤ length held = omega (arith, s .pre .1 .long) in
     let v = ap (λ (x : Sums). x .weights) (c .weighted-sums .ensures) in
     let n = ap (λ (x : Sums). x .products) (c .weighted-sums .ensures) in
-    omega (arith, v, n, products-bound held held ps (s .pre .1 .relatives) h)
+    omega (arith, products-most s)
 
 mul-result : tie.Need-mul-result
 mul-result c =
     let s = c .before .before .before .before .before in
-    let held = take (s .args .units) (s .args .places .now) in
-    let ps = s .args .p .now in
-    let h : length ps ≤ length held = omega (arith, s .pre .1 .long) in
-    let v = ap (λ (x : Sums). x .weights) (c .before .weighted-sums .ensures) in
-    let n = ap (λ (x : Sums). x .products) (c .before .weighted-sums .ensures) in
-    let k : c .before .weighted-sums .result .products ≤ highestRelative * c .before .weighted-sums .result .weights = omega (arith, v, n, products-bound held held ps (s .pre .1 .relatives) h) in
-    let l : c .link .result ≤ highestRelative * linkScale = omega (arith, c .link .ensures, mean-most _ _ highestRelative linkScale k) in
+    let most = mean-most _ _ highestRelative linkScale (link-requires (c .before) _ .2) in
+    let l : c .link .result ≤ highestRelative * linkScale = omega (arith, c .link .ensures) in
     omega (arith, mul-le-mul (s .pre .1 .inRange) l)
 
 returns : tie.Need-returns
 unfolding figureAt link
-returns c =
-    let s = c .before .before .before .before .before in
-    let v = ap (λ (x : Sums). x .weights) (c .before .weighted-sums .ensures) in
-    let n = ap (λ (x : Sums). x .products) (c .before .weighted-sums .ensures) in
-    ap (λ (l : ℕ). s .args .index * l / (linkScale * relativeScale))
-    (c .link .ensures ∙ ap₂ (λ (x y : ℕ). x * linkScale / y) n v)
+returns c = rw (c .link .ensures, c .before .weighted-sums .ensures)
 
 pub figure-spec : {M : Type 1} → statement M
 figure-spec =
     tie.close
-    (tie.spec slice-aggregate-weighted-sums weighted-sums-requires link-requires mul-result (λ c. search needs) (λ c. search needs) returns)
+    (tie.spec (λ c. let s = c .before .before .before in sym (length-take-le (s .args .units) (s .args .places .now) (s .pre .0)))
+    (λ c κs. omega (arith, products-most (c .before .before .before))) link-requires mul-result (λ c. search needs) (λ c. search needs) returns)

@@ -8,6 +8,9 @@ use borrow.Author.Needs.{needs}
 use Rattle.figures.proofs.link.Statement.{statement}
 use Rattle.figures.proofs.link.Tie as tie
 
+returns : tie.Need-returns
+returns c = two-steps (c .args .n) (c .args .v) linkScale (c .pre .0)
+
 mul-result : tie.Need-mul-result
 mul-result c =
     let a = c .args in
@@ -19,10 +22,8 @@ add-result c =
     let a = c .args in
     omega (arith, two-steps (a .n) (a .v) linkScale (c .pre .0), mean-most (a .n) (a .v) highestRelative linkScale (c .pre .2))
 
-returns : tie.Need-returns
-returns c = two-steps (c .args .n) (c .args .v) linkScale (c .pre .0)
-
 pub link-spec : {M : Type 1} → statement M
 link-spec =
-    tie.close (tie.spec (λ c. search needs) (λ c. search needs) mul-result (λ c. omega (arith, mod-lt (c .args .n) (c .pre .0))) (λ c. search needs) add-result
+    tie.close
+    (tie.spec (λ c. search needs) (λ c. search needs) mul-result (λ c. omega (arith, mod-lt (c .args .n) (c .pre .0))) (λ c. search needs) add-result
     returns)

@@ -24,29 +24,17 @@ parts-turned :
 parts-turned a b c d p q ep eq le ge =
     rw (whole-leaves a b p ep, whole-leaves c d q eq) (sym (turned a b c d (omega arith)))
 
-returns : tie.Need-returns
-returns c = sym (whole-less _ _ _ _ (search needs) (search needs) (search needs))
-
-returns-2 : tie.Need-returns-2
-returns-2 c = sym (whole-more _ _ _ _ (search needs) (search needs) (search needs))
-
-mul-rest-a : tie.Need-mul-rest-a
-mul-rest-a c = omega (arith, whole-fits _ _ _ (c .before .before .before .pre .2))
-
-sub-rest-a : tie.Need-sub-rest-a
-sub-rest-a c = whole-fits _ _ _ (c .before .before .before .before .pre .2)
-
-mul-rest-b : tie.Need-mul-rest-b
-mul-rest-b c = omega (arith, whole-fits _ _ _ (c .before .before .before .before .before .pre .3))
-
-sub-rest-b : tie.Need-sub-rest-b
-sub-rest-b c = whole-fits _ _ _ (c .before .before .before .before .before .before .pre .3)
-
-returns-3 : tie.Need-returns-3
-returns-3 c =
-    let start = c .before .before .before .before .before .before .before in
-    c .above .ensures ∙ parts-turned _ _ _ _ _ _ (start .pre .2) (start .pre .3) (search needs) (search needs)
-
 pub below-by-parts-spec : {M : Type 1} → statement M
 below-by-parts-spec =
-    tie.close (tie.spec returns returns-2 mul-rest-a sub-rest-a mul-rest-b sub-rest-b (λ c κs. search needs) returns-3)
+    tie.close
+    (tie.spec
+    (λ c. sym (whole-less _ _ _ _ (search needs) (search needs) (search needs)))
+    (λ c. sym (whole-more _ _ _ _ (search needs) (search needs) (search needs)))
+    (λ c. omega (arith, whole-fits _ _ _ (c .before .before .before .pre .2)))
+    (λ c. whole-fits _ _ _ (c .before .before .before .before .pre .2))
+    (λ c. omega (arith, whole-fits _ _ _ (c .before .before .before .before .before .pre .3)))
+    (λ c. whole-fits _ _ _ (c .before .before .before .before .before .before .pre .3))
+    (λ c κs. search needs)
+    (λ c.
+    let start = c .before .before .before .before .before .before .before in
+    c .above .ensures ∙ parts-turned _ _ _ _ _ _ (start .pre .2) (start .pre .3) (search needs) (search needs)))

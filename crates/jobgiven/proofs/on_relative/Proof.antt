@@ -1,37 +1,26 @@
--- As for a share, of the pending relatives.
-use mathlib.Core.Path.{_≡_, sym, _∙_}
-use Prim.Native.Nat.{_≤_, _<_}
-use lib.ListN.{length, take}
-use lib.Seq.{take-set-lt}
+-- A place below the panel's size is a place of the array, and names a unit of the panel.
 use native.Mathlib.Omega.{arith}
-use Rattle.refusals.specs.declared.Refusal.the-variants.{Place}
-use Rattle.rules.specs.Limits.{mostPanel}
-use Rattle.jobstate.specs.declared.Saying.the-variants.{Refused, Nothing}
-use Rattle.jobstate.specs.State.{jobOf}
-use Rattle.jobstate.proofs.FirstPlaces.{named}
-use Rattle.jobstate.proofs.Jobs.{stepped}
-use Rattle.jobgiven.proofs.Values.{relative-refused, relative-set}
+use mathlib.Core.Path.{refl}
+use Rattle.rules.specs.Job.{step, onRelative}
+use Rattle.jobstate.proofs.Jobs.{relative-held}
+use Rattle.jobstate.proofs.Steps.{refused-step, plain-step}
+use Rattle.jobgiven.proofs.Values.{beyond, among}
 use borrow.Author.Needs.{needs}
 use Rattle.jobgiven.proofs.on_relative.Statement.{statement}
 use Rattle.jobgiven.proofs.on_relative.Tie as tie
 
 returns : tie.Need-returns
+unfolding step onRelative
 returns c =
     let a = c .before .before .before .args in
-    let j = a .job in
-    let h : length (j .panel) ≡ mostPanel = search needs in
-    let beyond : length (take (j .size) (j .panel)) ≤ a .place = omega (arith, named (j .panel) (j .size) mostPanel h) in
-    stepped (c .said .result) j (Refused Place) (c .said .ensures .0) (c .said .ensures .1) ∙ sym (relative-refused (jobOf j) (a .place) _ beyond)
+    refused-step _ _ _ _ _ _ refl _ (beyond (a .job) (a .place) (search needs) (omega arith)) (c .said .ensures)
 
 returns-2 : tie.Need-returns-2
+unfolding step onRelative
 returns-2 c =
     let a = c .before .before .before .args in
-    let j = a .job in
-    let h : length (j .panel) ≡ mostPanel = search needs in
-    let among : a .place < length (take (j .size) (j .panel)) = omega (arith, named (j .panel) (j .size) mostPanel h) in
-    let below : a .place < j .size = omega arith in
-    stepped (c .said2 .result) _ Nothing (c .said2 .ensures .0) (c .said2 .ensures .1)
-    ∙ relative-set (jobOf j) (a .place) (a .relative) among _ (take-set-lt (j .size) (j .pending) (a .place) (a .relative) below)
+    plain-step _ _ _ _ _ _ refl (among (a .job) (a .place) (search needs) (omega arith))
+    (relative-held (a .job) (a .place) (a .relative) (omega arith)) _ _ refl (c .said2 .ensures) (λ ns ws. refl) refl
 
 pub on-relative-spec : {M : Type 1} → statement M
 on-relative-spec =

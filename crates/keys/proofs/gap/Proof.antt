@@ -6,12 +6,9 @@ use Rattle.rules.specs.Limits.{mostPanel, mostTurnover}
 use Rattle.keys.proofs.gap.Statement.{statement}
 use Rattle.keys.proofs.gap.Tie as tie
 
-mul-reached : tie.Need-mul-reached
-mul-reached c =
-    omega (
-      arith,
-      mul-le-mul {n₁ = c .args .size} {m₁ = c .args .turnover} {n₂ = mostPanel} {m₂ = mostTurnover} (c .pre .1) (c .pre .0),
-    )
-
 pub gap-spec : {M : Type 1} → statement M
-gap-spec = tie.close (tie.spec mul-reached (λ c. search needs) (λ c. search needs))
+gap-spec =
+    tie.close
+    (tie.spec
+    (λ c. omega (arith, mul-le-mul {n₁ = c .args .size} {m₁ = c .args .turnover} {n₂ = mostPanel} {m₂ = mostTurnover} (c .pre .1) (c .pre .0)))
+    (λ c. search needs) (λ c. search needs))

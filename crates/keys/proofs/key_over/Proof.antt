@@ -13,19 +13,11 @@ use Rattle.keys.proofs.key_over.Tie as tie
 product-low : (m n : ℕ) → m ≤ randomRange → n ≤ mostTurnover → m * n ≤ randomRange * mostTurnover
 product-low m n = mul-le-mul
 
-mul-t7 : tie.Need-mul-t7
-mul-t7 c =
-    let start = c .before .before in
-    omega (arith, product-low (start .args .r .0) (start .args .gap) (omega arith) (start .pre .2))
-
-mul-t8 : tie.Need-mul-t8
-mul-t8 c =
-    let start = c .before .before in
-    omega (arith, product-low (randomRange - start .args .r .0) (start .args .turnover) (omega arith) (start .pre .0))
-
-returns : tie.Need-returns
-unfolding keyDenominator
-returns c = (refl, refl)
-
 pub key-over-spec : {M : Type 1} → statement M
-key-over-spec = tie.close (tie.spec (λ c. search needs) (λ c. search needs) (λ c. search needs) mul-t7 mul-t8 returns)
+unfolding keyDenominator
+key-over-spec =
+    tie.close
+    (tie.spec (λ c. search needs) (λ c. search needs) (λ c. search needs)
+    (λ c. let s = c .before .before in omega (arith, product-low (s .args .r .0) (s .args .gap) (omega arith) (s .pre .2)))
+    (λ c. let s = c .before .before in omega (arith, product-low (randomRange - s .args .r .0) (s .args .turnover) (omega arith) (s .pre .0)))
+    (λ c. (refl, refl)))

@@ -2,12 +2,12 @@
 use Prim.Native.Nat.{ℕ, _+_, _*_, _-_, _≤_}
 use borrow.Author.Needs.{needs}
 use mathlib.Core.Path.{_≡_, refl, sym, ap, _∙_}
-use mathlib.Core.List.{_++_}
+use mathlib.Core.List.{List, _++_}
 use lib.ListN.{length, take, getD}
 use native.Mathlib.Omega.{arith}
 use Rattle.lines.proofs.Panel.{one-unit, all-units, no-units}
 use Rattle.lines.proofs.Room.{line2-fits, line2-next}
-use Rattle.decimal.proofs.Laying.{_then_, says, nothing}
+use Rattle.decimal.proofs.Laying.{in-turn, says, nothing}
 use Rattle.decimal.specs.Put.{Put}
 use Rattle.lines.specs.Laid.{lineRoom}
 use Rattle.rules.specs.Lines.{lineOf2, panelLines}
@@ -15,7 +15,8 @@ use Rattle.lines.proofs.put_panel.Statement.{statement}
 use Rattle.lines.proofs.put_panel.Tie as tie
 
 abbrev Inv-loop : tie.InvT-loop
-Inv-loop out₀ numbers weights n at₀ i₀ out at i = (i ≤ n) × (at ≤ lineRoom * i) × (length out ≡ length out₀) × Put 0 (panelLines (take i numbers) (take i weights)) out₀ out at
+Inv-loop out₀ numbers weights n at₀ i₀ out at i =
+    (i ≤ n) × (at ≤ lineRoom * i) × (length out ≡ length out₀) × Put 0 (panelLines (take i numbers) (take i weights)) out₀ out at
 
 abbrev μ-loop : tie.MeasureT-loop
 μ-loop out₀ numbers weights n at₀ i₀ out at i = n - i
@@ -33,14 +34,16 @@ put-line2-requires c κs =
 
 loop-again : tie.Need-loop-again Inv-loop μ-loop
 loop-again c =
-    let ns = c .before .before .before .before .before .before .before .before .before .before .before .before .before .args .numbers .now in
-    let ws = c .before .before .before .before .before .before .before .before .before .before .before .before .before .args .weights .now in
-    let l = c .before .before .before .before .before .before .before .before .loop in
-    let w = getD ws (l .i) 0 in
-    let size = line2-next _ _ _ (c .before .before .put-line2 .ensures) in
-    let number = ap (λ (m : ℕ). panelLines (take (l .i) ns) (take (l .i) ws) ++ lineOf2 80 m w) (c .before .before .before .before .before .wide .ensures) in
-    let more = number ∙ one-unit (l .i) ns ws (search needs) (search needs) in
-    (search needs, omega arith, search needs, says more (_then_ (l .inv .3) (c .before .before .put-line2 .ensures) (omega arith)))
+    let put = c .before .before in
+    let at-loop = put .before .before .before .before .before .before in
+    let l = at-loop .loop in
+    let a = at-loop .before .before .before .before .before .args in
+    let ns = a .numbers .now in
+    let ws = a .weights .now in
+    let size = line2-next _ _ _ (put .put-line2 .ensures) in
+    let line : ℕ → List ℕ = λ m. panelLines (take (l .i) ns) (take (l .i) ws) ++ lineOf2 80 m (getD ws (l .i) 0) in
+    let more = ap line (put .before .before .before .wide .ensures) ∙ one-unit (l .i) ns ws (search needs) (search needs) in
+    (search needs, omega arith, search needs, says more (in-turn (l .inv .3) (put .put-line2 .ensures) (omega arith)))
 
 returns : tie.Need-returns Inv-loop μ-loop
 returns c =

@@ -2,12 +2,13 @@
 -- alone gives what a look at the whole frame would.
 use mathlib.Core.Path.{_≡_, refl, sym, ap, _∙_, subst}
 use mathlib.Core.Logic.{⊎-elim}
-use mathlib.Core.Bool.{Bool, true, false, not}
+use mathlib.Core.Bool.{Bool, not}
 use mathlib.Core.List.{List}
 use Prim.Native.Nat.{ℕ, _+_, _-_, _≤_, _<_}
 use native.Mathlib.Omega.{arith}
 use lib.ListN.{length, getD}
 use borrow.Author.Needs.{needs}
+use Rattle.rules.specs.Limits.{mostPanel}
 use Rattle.rules.specs.Tests.{_and_}
 use Rattle.rules.specs.TakeAll.{largest}
 use Rattle.rules.specs.Rotation.{member}
@@ -27,65 +28,56 @@ Inv-loop numbers turnovers panel g units many places₀ kept₀ j₀ places kept
 abbrev μ-loop : tie.MeasureT-loop
 μ-loop numbers turnovers panel g units many places₀ kept₀ j₀ places kept j = many - j
 
-mul-i : tie.Need-mul-i Inv-loop μ-loop
-mul-i c = omega (arith, hold-most _ _ _ _ (c .before .before .before .in-frame .ensures .0))
+-- the units found, and the entry
+module _ (c : tie.After-in-frame Inv-loop μ-loop) where
+  abbrev start : tie.Start Inv-loop μ-loop
+  start = c .before .before .before .before
 
-array-read-i : tie.Need-array-read-i Inv-loop μ-loop
-array-read-i c = omega (arith, hold-most _ _ _ _ (c .before .before .before .in-frame .ensures .0))
-
-takes-all-requires : tie.Need-takes-all-requires Inv-loop μ-loop
-takes-all-requires c κs =
-    let found = c .before .before .before .in-frame .ensures .0 in
-    (omega (arith, place-low _ _ _ found (c .before .loop .j) (c .loop-test .taken), c .before .before .before .before .before .before .before .pre .1 .0), c .before .before .before .before .before .before .before .pre .1 .1)
-
-mul-places : tie.Need-mul-places Inv-loop μ-loop
-mul-places c = omega (arith, hold-most _ _ _ _ (c .before .before .before .before .before .in-frame .ensures .0))
-
-array-write-places : tie.Need-array-write-places Inv-loop μ-loop
-array-write-places c = omega (arith, hold-most _ _ _ _ (c .before .before .before .before .before .in-frame .ensures .0))
-
-add-kept : tie.Need-add-kept Inv-loop μ-loop
-add-kept c = omega (arith, hold-most _ _ _ _ (c .before .before .before .before .before .in-frame .ensures .0))
-
-add-j : tie.Need-add-j Inv-loop μ-loop
-add-j c = omega (arith, hold-most _ _ _ _ (c .before .before .before .before .before .in-frame .ensures .0))
+  few : c .in-frame .result .count ≤ mostPanel
+  few = hold-most _ _ _ _ (c .in-frame .ensures .0)
 
 loop-again : tie.Need-loop-again Inv-loop μ-loop
 loop-again c =
-    let j = c .before .before .before .loop .j in
-    let inv = c .before .before .before .loop .inv in
-    let st = c .before .before .before .before .before .before .before .before .before in
-    let units = c .before .before .before .before .before .in-frame .result .places in
-    let mark = stays (st .args .turnovers .now) (st .args .g .q) units in
-    let next : j + 1 ≤ c .before .before .before .before .before .in-frame .result .count = omega arith in
-    let room : c .before .before .before .loop .kept < length (c .before .before .before .loop .places) = omega (arith, inv .2 .room, hold-most _ _ _ _ (c .before .before .before .before .before .in-frame .ensures .0)) in
+    let at = c .before .before .before .loop in
+    let found = c .before .before .before .before .before in
+    let a = start found .args in
+    let units = found .in-frame .result .places in
+    let mark = stays (a .turnovers .now) (a .g .q) units in
+    let now = hold-same mark (λ k. getD units k 0) (at .j + 1) in
+    let test = ap not (sym (c .before .takes-all .ensures)) in
+    let next : at .j + 1 ≤ found .in-frame .result .count = omega arith in
+    let room : at .kept < length (at .places) = omega (arith, at .inv .2 .room, few found) in
     ⊎-elim
-    (λ w.
-    let marked : mark j ≡ true = ap not (sym (c .before .takes-all .ensures)) ∙ w .0 .taken in
-    (next, omega (arith, w .2, inv .1), hold-same mark (λ k. getD units k 0) (j + 1) _ _ _ _ (w .1) (w .2) (hold-more mark (λ k. getD units k 0) j (c .before .before .before .loop .places) (c .before .before .before .loop .kept) marked room (inv .2))))
-    (λ w.
-    let marked : mark j ≡ false = ap not (sym (c .before .takes-all .ensures)) ∙ w .0 .left in
-    (next, omega (arith, w .2, inv .1), hold-same mark (λ k. getD units k 0) (j + 1) _ _ _ _ (w .1) (w .2) (hold-not mark (λ k. getD units k 0) j (held (c .before .before .before .loop .places) (c .before .before .before .loop .kept)) marked (inv .2))))
+    (λ w. (next, omega (arith, w .2, at .inv .1), now _ _ _ _ (w .1) (w .2) (hold-more mark _ (at .j) (at .places) (at .kept) (test ∙ w .0 .taken) room (at .inv .2))))
+    (λ w. (next, omega (arith, w .2, at .inv .1), now _ _ _ _ (w .1) (w .2) (hold-not mark _ (at .j) (held (at .places) (at .kept)) (test ∙ w .0 .left) (at .inv .2))))
     (c .if1 .came)
 
 returns : tie.Need-returns Inv-loop μ-loop
 unfolding member inPanel
 returns c =
-    let st = c .before .before .before .before .before .before .before in
-    let ts = st .args .turnovers .now in
-    let q = st .args .g .q in
-    let found = c .before .before .before .in-frame .result in
-    let all : c .before .loop .j ≡ found .count = omega arith in (
-      subst
-          (λ (n : ℕ). PlacesOf (λ i. inPanel (st .args .numbers .now) (st .args .panel .now) i and not (largest ts q i)) n (held (c .before .loop .places) (c .before .loop .kept)))
-          (st .pre .1 .0)
-          (holding-both (inPanel (st .args .numbers .now) (st .args .panel .now)) (λ i. not (largest ts q i)) (length (st .args .numbers .now)) found (c .before .before .before .in-frame .ensures .0) (held (c .before .loop .places) (c .before .loop .kept))
-          (subst (λ (k : ℕ). Holding (stays ts q (found .places)) (λ k. getD (found .places) k 0) k (held (c .before .loop .places) (c .before .loop .kept))) all (c .before .loop .inv .2))),
-      omega (arith, c .before .before .before .in-frame .ensures .1),
+    let found = c .before .before .before in
+    let s = start found in
+    let a = s .args in
+    let at = c .before .loop in
+    let kept = held (at .places) (at .kept) in
+    let units = found .in-frame .result .places in
+    let others : ℕ → Bool = λ i. not (largest (a .turnovers .now) (a .g .q) i) in
+    let end : at .j ≡ found .in-frame .result .count = omega arith in
+    let all = subst (λ (k : ℕ). Holding (stays (a .turnovers .now) (a .g .q) units) (λ k. getD units k 0) k kept) end (at .inv .2) in
+    let both = holding-both (inPanel (a .numbers .now) (a .panel .now)) others (length (a .numbers .now)) _ (found .in-frame .ensures .0) kept all in (
+      subst (λ (n : ℕ). PlacesOf (λ i. inPanel (a .numbers .now) (a .panel .now) i and others i) n kept) (s .pre .1 .0) both,
+      omega (arith, found .in-frame .ensures .1),
     )
 
 pub members-spec : {M : Type 1} → statement M
 members-spec =
     tie.close
-    (tie.spec Inv-loop μ-loop (λ c κs. c .before .before .before .pre .0) (λ c. (omega arith, omega arith, hold-none _ _ _ refl)) mul-i array-read-i
-    takes-all-requires mul-places array-write-places add-kept add-j (λ c. search needs) loop-again returns)
+    (tie.spec Inv-loop μ-loop (λ c κs. c .before .before .before .pre .0) (λ c. (omega arith, omega arith, hold-none _ _ _ refl))
+    (λ c. omega (arith, few (c .before .before .before))) (λ c. omega (arith, few (c .before .before .before), c .before .before .before .in-frame .ensures .0 .room))
+    (λ c κs.
+    let found = c .before .before .before in
+    let s = start found in
+    (omega (arith, place-low _ _ _ (found .in-frame .ensures .0) (c .before .loop .j) (c .loop-test .taken), s .pre .1 .0), s .pre .1 .1))
+    (λ c. omega (arith, few (c .before .before .before .before .before))) (λ c. omega (arith, few (c .before .before .before .before .before)))
+    (λ c. omega (arith, few (c .before .before .before .before .before))) (λ c. omega (arith, few (c .before .before .before .before .before)))
+    (λ c. search needs) loop-again returns)

@@ -1,21 +1,21 @@
--- `judge` meets its contract: a refused frame stops the order of refusals, an accepted one hands it on.
+-- `judge` meets its contract: a refused frame stops the sequence, an accepted one leaves it to the old panel.
 use mathlib.Core.Path.{sym, ap, _∙_}
-use Rattle.refusals.specs.Number.{verdictOf}
-use Rattle.oldpanel.proofs.Refusals.{refusal-some, frame-stops, frame-goes}
 use borrow.Author.Needs.{needs}
+use Rattle.rules.proofs.Refusals.{then-goes}
+use Rattle.refusals.specs.Number.{verdictOf}
+use Rattle.refusals.proofs.Answers.{stops-by}
 use Rattle.oldpanel.proofs.judge.Statement.{statement}
 use Rattle.oldpanel.proofs.judge.Tie as tie
 
 returns : tie.Need-returns
 returns c =
-    let why = c .before .why .given .0 .0 in
-    let is = sym (ap verdictOf (c .before .why .given .1)) ∙ c .before .before .before .judge .ensures in
-    is ∙ sym (frame-stops _ _ _ _ _ _ _ (λ none. refusal-some why (is ∙ none)))
+    let v = c .before .why .given in
+    stops-by (v .0 .0) _ _ (sym (ap verdictOf (v .1)) ∙ c .before .before .before .judge .ensures)
 
 returns-2 : tie.Need-returns-2
 returns-2 c =
-    let none = sym (c .before .before .before .judge .ensures) ∙ ap verdictOf (c .before .enum-told .given .1) in
-    c .judge-old .ensures ∙ sym (frame-goes _ _ _ _ _ _ _ none)
+    let s = c .before in
+    c .judge-old .ensures ∙ sym (then-goes _ _ (sym (s .before .before .judge .ensures) ∙ ap verdictOf (s .enum-told .given .1)))
 
 pub judge-spec : {M : Type 1} → statement M
 judge-spec =

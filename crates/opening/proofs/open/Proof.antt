@@ -1,109 +1,94 @@
--- `open`: a refusal of either group of tests is the opening's, beside an empty record; with none the units' places hold the opening weights, and the others 0.
+-- `open`: a refusal of the input or of the weights is the opening's, beside an empty record; with none the units' places hold the opening
+-- weights, and the others 0.
 use native.Mathlib.Omega.{arith}
 use mathlib.Core.Path.{_≡_, sym, ap, ap₂, _∙_}
 use mathlib.Core.List.{List, _++_}
 use Prim.Native.Nat.{ℕ, _≤_}
-use lib.ListN.{length, drop, length-replicate}
+use lib.ListN.{length, take, drop, replicate, length-replicate}
 use lib.Seq.{length-take-le}
-use Rattle.refusals.specs.Number.{numberOf, verdictOf}
-use Rattle.rules.specs.Limits.{mostPanel}
-use Rattle.rules.specs.Chain.{openRefusal, openRecord, openAnswer}
-use Rattle.figures.specs.Steps.{recordWith}
-use Rattle.chain.specs.Record.{recordOf}
-use Rattle.openinput.specs.Input.{inputRefusal}
-use Rattle.openweights.specs.Places.{lowWeights, placesRefusal}
-use Rattle.opening.specs.Opened.{openingOf, openedRecord}
-use Rattle.opening.specs.declared.Opened.{Opened}
-use Rattle.openinput.proofs.Input.{input, input-stops, input-goes}
-use Rattle.opening.proofs.Fitting.{fillable}
-use Rattle.opening.proofs.Answers.{refused-answer, refused-record, accepted-answer, accepted-record, drop-blank}
 use borrow.Author.Needs.{needs}
+use Rattle.refusals.specs.Number.{numberOf, verdictOf}
+use Rattle.refusals.specs.declared.Refusal.{Refusal}
+use Rattle.refusals.proofs.Answers.{stops-by, refused-by, stays-by}
+use Rattle.rules.specs.Limits.{mostPanel}
+use Rattle.rules.specs.Refusals.{Judged}
+use Rattle.rules.specs.Chain.{Chain, openInputRefusal, openRefusal, openRecord, openAnswer}
+use Rattle.rules.proofs.Refusals.{then-goes}
+use Rattle.rules.proofs.Lists.{drop-replicate}
+use Rattle.rules.proofs.Chains.{Openable, openable}
+use Rattle.figures.specs.Steps.{recordWith}
+use Rattle.opening.specs.Opened.{emptyRecord, openedRecord}
+use Rattle.opening.proofs.Fitting.{weighable}
 use Rattle.opening.proofs.open.Statement.{statement}
 use Rattle.opening.proofs.open.Tie as tie
 
-array-borrow-prefix-places : tie.Need-array-borrow-prefix-places
-array-borrow-prefix-places c =
-    let ws = c .before .before .before .before .before .before .before .args .w .now in
-    let gs = c .before .before .before .before .before .before .before .args .g .now in
-    let rs = c .before .before .before .before .before .before .before .args .a .now in
-    let start = c .before .before .before .before .before .before .before .args .start in
-    let e : inputRefusal ws gs rs start 0 ≡ 0 = sym (c .before .before .before .judge-input .ensures) ∙ ap verdictOf (c .before .enum-told .given .1) in
-    let i = input ws gs rs start e in
-    let b : length (c .blank .result) ≡ mostPanel = ap length (c .blank .ensures) ∙ length-replicate {A = ℕ} mostPanel 0 in
-    let room : length ws ≤ length (c .blank .result) = omega (arith, b, i .lists .most) in
-    room
+refused-open : (ws gs rs : List ℕ) (start : ℕ) (why : Refusal) → numberOf why ≡ openRefusal ws gs rs start →
+    (Judged.refused (numberOf why) ≡ openAnswer ws gs rs start) × (emptyRecord ≡ openedRecord ws gs rs start)
+unfolding openAnswer openedRecord
+refused-open ws gs rs start why e = (refused-by why _ e _, stays-by why _ e _ _)
 
-slice-aggregate-judge-places : tie.Need-slice-aggregate-judge-places
-slice-aggregate-judge-places c =
-    let ws = c .before .before .before .before .before .before .before .before .args .w .now in
-    let gs = c .before .before .before .before .before .before .before .before .args .g .now in
-    let rs = c .before .before .before .before .before .before .before .before .args .a .now in
-    let start = c .before .before .before .before .before .before .before .before .args .start in
-    let e : inputRefusal ws gs rs start 0 ≡ 0 = sym (c .before .before .before .before .judge-input .ensures) ∙ ap verdictOf (c .before .before .enum-told .given .1) in
-    let i = input ws gs rs start e in
-    let b : length (c .before .blank .result) ≡ mostPanel = ap length (c .before .blank .ensures) ∙ length-replicate {A = ℕ} mostPanel 0 in
-    let room : length ws ≤ length (c .before .blank .result) = omega (arith, b, i .lists .most) in
-    sym (length-take-le (length ws) (c .before .blank .result) room)
-
-judge-places-requires : tie.Need-judge-places-requires
-judge-places-requires c κs =
-    let ws = c .before .before .before .before .before .before .before .before .args .w .now in
-    let gs = c .before .before .before .before .before .before .before .before .args .g .now in
-    let rs = c .before .before .before .before .before .before .before .before .args .a .now in
-    let start = c .before .before .before .before .before .before .before .before .args .start in
-    let e : inputRefusal ws gs rs start 0 ≡ 0 = sym (c .before .before .before .before .judge-input .ensures) ∙ ap verdictOf (c .before .before .enum-told .given .1) in
-    let i = input ws gs rs start e in
-    let b : length (c .before .blank .result) ≡ mostPanel = ap length (c .before .blank .ensures) ∙ length-replicate {A = ℕ} mostPanel 0 in
-    let room : length ws ≤ length (c .before .blank .result) = omega (arith, b, i .lists .most) in
-    fillable ws gs rs _ i (length-take-le (length ws) (c .before .blank .result) room)
+accepted-open : (ws gs rs : List ℕ) (start : ℕ) (c : Chain) → openRefusal ws gs rs start ≡ 0 → c ≡ openRecord ws gs rs start →
+    (Judged.given c ≡ openAnswer ws gs rs start) × (c ≡ openedRecord ws gs rs start)
+unfolding openAnswer openedRecord
+accepted-open ws gs rs start c none e = (rw (none, e), rw (none, e))
 
 returns : tie.Need-returns
-unfolding openAnswer openedRecord openRefusal inputRefusal placesRefusal lowWeights
+unfolding openRefusal
 returns c =
-    let ws = c .before .before .before .before .before .before .before .before .args .w .now in
-    let gs = c .before .before .before .before .before .before .before .before .args .g .now in
-    let rs = c .before .before .before .before .before .before .before .before .args .a .now in
-    let start = c .before .before .before .before .before .before .before .before .args .start in
-    let why = c .before .before .input .given .0 .0 in
-    let e : numberOf why ≡ inputRefusal ws gs rs start 0 = sym (ap verdictOf (c .before .before .input .given .1)) ∙ c .before .before .before .before .judge-input .ensures in
-    let n : openRefusal ws gs rs start ≡ numberOf why = input-stops ws gs rs start (placesRefusal ws gs rs) why e in (
-      ap openingOf (c .refused .ensures) ∙ refused-answer _ (openRecord ws gs rs start) why n,
-      ap (λ (o : Opened). recordOf (o .chain)) (c .refused .ensures) ∙ refused-record _ (openRecord ws gs rs start) why n,
-    )
+    let told = c .before .before .input .given in
+    let s = c .before .before .before .before in
+    rw (c .refused .ensures) (refused-open _ _ _ _ (told .0 .0) (stops-by (told .0 .0) _ _ (sym (ap verdictOf (told .1)) ∙ s .judge-input .ensures)))
+
+-- the input passes: the units have room
+abbrev start : tie.After-enum-told → tie.Start
+start s = s .before .before .before .before .before .before
+
+passed : (s : tie.After-enum-told) → let a = start s .args in openInputRefusal (a .w .now) (a .g .now) (a .a .now) (a .start) ≡ 0
+passed s = sym (s .before .before .judge-input .ensures) ∙ ap verdictOf (s .enum-told .given .1)
+
+openableAt : (s : tie.After-enum-told) → let a = start s .args in Openable (a .w .now) (a .g .now) (a .a .now)
+openableAt s = openable _ _ _ (start s .args .start) (passed s)
+
+room : (s : tie.After-enum-told) (places : List ℕ) → places ≡ replicate mostPanel 0 → length (start s .args .w .now) ≤ length places
+room s places e = omega (arith, ap length e ∙ length-replicate {A = ℕ} mostPanel 0, openableAt s .lists .most)
+
+long : (s : tie.After-enum-told) (places : List ℕ) → places ≡ replicate mostPanel 0 →
+    let n = length (start s .args .w .now) in length (take n places) ≡ n
+long s places e = length-take-le _ _ (room s places e)
+
+weigh-requires : tie.Need-weigh-requires
+weigh-requires c κs =
+    let s = c .before .before .before .before in
+    weighable _ _ _ _ _ (openableAt s) (long s _ (c .before .before .before .blank .ensures)) (long s _ (c .before .before .blank2 .ensures))
+
+-- 21 and 22 decide
+refusal : (s : tie.After-weigh) → let a = start (s .before .before .before .before .before) .args in
+    openRefusal (a .w .now) (a .g .now) (a .a .now) (a .start) ≡ verdictOf (s .weigh .result)
+unfolding openRefusal
+refusal s = then-goes _ _ (passed (s .before .before .before .before .before)) ∙ sym (s .weigh .ensures .0)
 
 returns-2 : tie.Need-returns-2
-unfolding openAnswer openedRecord openRefusal inputRefusal placesRefusal lowWeights
 returns-2 c =
-    let ws = c .before .before .before .before .before .before .before .before .before .before .before .before .before .before .args .w .now in
-    let gs = c .before .before .before .before .before .before .before .before .before .before .before .before .before .before .args .g .now in
-    let rs = c .before .before .before .before .before .before .before .before .before .before .before .before .before .before .args .a .now in
-    let start = c .before .before .before .before .before .before .before .before .before .before .before .before .before .before .args .start in
-    let e : inputRefusal ws gs rs start 0 ≡ 0 = sym (c .before .before .before .before .before .before .before .before .before .before .judge-input .ensures) ∙ ap verdictOf (c .before .before .before .before .before .before .before .before .enum-told .given .1) in
-    let why = c .before .before .filled .given .0 .0 in
-    let goes = input-goes ws gs rs start (placesRefusal ws gs rs) e in
-    let n : openRefusal ws gs rs start ≡ numberOf why = goes ∙ sym (c .before .before .before .before .before .judge-places .ensures .0) ∙ ap verdictOf (c .before .before .filled .given .1) in (
-      ap openingOf (c .refused2 .ensures) ∙ refused-answer _ (openRecord ws gs rs start) why n,
-      ap (λ (o : Opened). recordOf (o .chain)) (c .refused2 .ensures) ∙ refused-record _ (openRecord ws gs rs start) why n,
-    )
+    let told = c .before .before .last .given in
+    let s = c .before .before .before .before .before .before in
+    rw (c .refused2 .ensures) (refused-open _ _ _ _ (told .0 .0) (sym (refusal s ∙ ap verdictOf (told .1))))
 
 returns-3 : tie.Need-returns-3
-unfolding openAnswer openedRecord openRefusal openRecord inputRefusal placesRefusal lowWeights
+unfolding openRecord
 returns-3 c =
-    let ws = c .before .before .before .before .before .before .before .before .before .before .before .before .args .w .now in
-    let gs = c .before .before .before .before .before .before .before .before .before .before .before .before .args .g .now in
-    let rs = c .before .before .before .before .before .before .before .before .before .before .before .before .args .a .now in
-    let start = c .before .before .before .before .before .before .before .before .before .before .before .before .args .start in
-    let e : inputRefusal ws gs rs start 0 ≡ 0 = sym (c .before .before .before .before .before .before .before .before .judge-input .ensures) ∙ ap verdictOf (c .before .before .before .before .before .before .enum-told .given .1) in
-    let goes = input-goes ws gs rs start (placesRefusal ws gs rs) e in
+    let s = c .before .before .before .before in
+    let a = start (s .before .before .before .before .before) .args in
+    let n = length (a .w .now) in
     let none = ap verdictOf (c .enum-told2 .given .1) in
-    let n : openRefusal ws gs rs start ≡ 0 = goes ∙ sym (c .before .before .before .judge-places .ensures .0) ∙ none in
-    let beyond = ap (drop (length ws)) (c .before .before .before .before .before .blank .ensures) ∙ drop-blank (length ws) mostPanel in
-    let places = ap₂ (λ (x y : List ℕ). x ++ y) (c .before .before .before .judge-places .ensures .1 none) beyond in
-    let same = ap (λ (l : List ℕ). recordWith l (length ws) start 0) places in
-    (accepted-answer _ _ (openRecord ws gs rs start) n same, accepted-record _ _ (openRecord ws gs rs start) n same)
+    let beyond = ap (drop n) (s .before .before .before .blank2 .ensures) ∙ drop-replicate n mostPanel 0 in
+    let places = ap₂ (λ (x y : List ℕ). x ++ y) (s .weigh .ensures .1 none) beyond in
+    accepted-open _ _ _ _ _ (refusal s ∙ none) (ap (λ (l : List ℕ). recordWith l n (a .start) 0) places)
 
 pub open-spec : {M : Type 1} → statement M
 open-spec =
     tie.close
-    (tie.spec (λ c κs. search needs) (λ c. search needs) (λ c κs. search needs) (λ c. search needs) (λ c κs. search needs) array-borrow-prefix-places
-    slice-aggregate-judge-places judge-places-requires (λ c. search needs) (λ c κs. search needs) (λ c. search needs) returns returns-2 returns-3)
+    (tie.spec (λ c κs. search needs) (λ c. search needs) (λ c κs. search needs) (λ c. search needs) (λ c κs. search needs) (λ c κs. search needs)
+    (λ c. room (c .before .before) _ (c .before .blank .ensures)) (λ c. sym (long (c .before .before .before) _ (c .before .before .blank .ensures)))
+    (λ c. room (c .before .before .before) _ (c .before .blank2 .ensures))
+    (λ c. sym (long (c .before .before .before .before) _ (c .before .before .blank2 .ensures))) weigh-requires (λ c. search needs)
+    (λ c κs. search needs) (λ c. search needs) returns returns-2 returns-3)

@@ -16,26 +16,40 @@ abbrev μ-loop : tie.MeasureT-loop
 μ-loop text count out₀ at bytes i₀ out i = count - i
 
 returns : tie.Need-returns Inv-loop μ-loop
-returns c = (omega (arith, c .before .bytes .given, c .before .before .pre), no-room (c .before .before .args .out .now) (c .before .before .args .text .now) (c .before .before .args .at) (c .before .before .args .count) (c .before .before .pre) (omega arith))
+returns c =
+    let s = c .before .before in
+    let a = s .args in
+    (omega (arith, c .before .bytes .given, s .pre), no-room (a .out .now) (a .text .now) (a .at) (a .count) (s .pre) (omega arith))
 
 returns-2 : tie.Need-returns-2 Inv-loop μ-loop
-returns-2 c = (omega (arith, c .before .before .bytes .given, c .before .before .before .pre), no-room (c .before .before .before .args .out .now) (c .before .before .before .args .text .now) (c .before .before .before .args .at) (c .before .before .before .args .count) (c .before .before .before .pre) (omega arith))
+returns-2 c =
+    let s = c .before .before .before in
+    let a = s .args in
+    (omega (arith, c .before .before .bytes .given, s .pre), no-room (a .out .now) (a .text .now) (a .at) (a .count) (s .pre) (omega arith))
 
 loop-holds : tie.Need-loop-holds Inv-loop μ-loop
-loop-holds c = (omega arith, omega arith, refl, paste-zero (c .before .before .before .args .out .now) (c .before .before .before .args .at) (c .before .before .before .args .text .now))
+loop-holds c =
+    let a = c .before .before .before .args in
+    (omega arith, omega arith, refl, paste-zero (a .out .now) (a .at) (a .text .now))
 
 loop-again : tie.Need-loop-again Inv-loop μ-loop
 loop-again c =
-    let a = c .before .before .before .before .before .before .args in
-    let i = c .before .before .loop .i in
+    let l = c .before .before in
+    let s = l .before .before .before .before in
+    let a = s .args in
+    let i = l .loop .i in
     let room : a .at + i < length (a .out .now) = omega arith in
-    let within : i < length (a .text .now) = omega (arith, c .before .before .before .before .before .before .pre) in
-    (omega arith, omega arith, simp length-set (c .before .before .loop .inv .2), rw (c .before .before .loop .inv .3, add-one) (paste-suc (a .out .now) (a .at) (a .text .now) i 0 room within))
+    let within : i < length (a .text .now) = omega (arith, s .pre) in
+    let next = paste-suc (a .out .now) (a .at) (a .text .now) i 0 room within in
+    (omega arith, omega arith, simp length-set (l .loop .inv .2), rw (l .loop .inv .3, add-one) next)
 
 returns-3 : tie.Need-returns-3 Inv-loop μ-loop
 returns-3 c =
-    let a = c .before .before .before .before .before .args in
-    (omega (arith, c .before .before .before .before .bytes .given, c .before .before .before .before .before .pre), c .before .loop .inv .3 ∙ all-laid (a .out .now) (a .text .now) (a .at) (a .count) (c .before .before .before .before .before .pre) (c .before .loop .i) (omega arith) (omega arith))
+    let l = c .before in
+    let s = l .before .before .before .before in
+    let a = s .args in
+    let all = all-laid (a .out .now) (a .text .now) (a .at) (a .count) (s .pre) (l .loop .i) (omega arith) (omega arith) in
+    (omega (arith, l .before .before .before .bytes .given, s .pre), l .loop .inv .3 ∙ all)
 
 pub lay-spec : {M : Type 1} → statement M
 lay-spec =

@@ -6,13 +6,15 @@ use Rattle.output.proofs.print.Statement.{statement}
 use Rattle.output.proofs.print.Tie as tie
 
 returns : tie.Need-returns
-returns c = short (c .before .before .before .before .before .before .before .args .stream .now) (c .before .before .before .before .before .before .before .args .out .now) (c .before .before .before .pass .last .1 .0) (c .before .before .before .pass .kept .1 .0) _ (c .before .before .before .pass .ensures .count) (omega arith)
+returns c =
+    let a = c .before .before .before .before .args in
+    short (a .stream .now) (a .out .now) (omega arith)
 
 returns-2 : tie.Need-returns-2
-returns-2 c = fits (c .before .before .before .before .before .before .before .before .before .before .before .args .stream .now) (c .before .before .before .before .before .before .before .before .before .before .before .args .out .now) (c .before .before .before .before .before .before .before .pass .last .1 .0) (c .before .before .before .before .before .before .before .pass .kept .1 .0) _ (c .before .before .before .before .before .before .before .pass .ensures .count) _ _ (c .before .before .pass2 .ensures) (omega arith)
+returns-2 c =
+    let counted = c .before .before .before .before .before in
+    let a = counted .before .before .before .args in
+    fits (a .stream .now) (a .out .now) _ _ (counted .count .ensures) (omega arith) (c .before .before .pass .ensures .text (omega arith))
 
 pub print-spec : {M : Type 1} → statement M
-print-spec =
-    tie.close
-    (tie.spec (λ c. search needs) (λ c. search needs) (λ c κs. search needs) (λ c. search needs) returns (λ c κs. search needs) (λ c. search needs)
-    returns-2)
+print-spec = tie.close (tie.spec (λ c κs. search needs) returns (λ c κs. search needs) (λ c. search needs) returns-2)

@@ -1,14 +1,14 @@
--- A turn writes the next unit of the panel (`next-stored`). Before it, the units below `from` are written: k of them.
-use mathlib.Core.Path.{_≡_, refl, sym, ap, ap₂, _∙_}
+-- A turn writes the next unit of the panel. Before it, the units below `from` are written: k of them.
+use mathlib.Core.Path.{refl, ap, _∙_}
 use native.Mathlib.Omega.{arith}
-use mathlib.Core.List.{List, _++_}
+use mathlib.Core.List.{List}
 use Prim.Native.Nat.{ℕ, _+_, _-_, _≤_, _<_}
-use lib.ListN.{length, getD, set, drop, length-set}
-use Rattle.rules.specs.Selection.{count, listed}
+use lib.ListN.{length, getD}
+use Rattle.rules.specs.Refusals.{written}
 use Rattle.rules.specs.TakeAll.{baseWeight}
-use Rattle.selection.proofs.Sums.{count-zero}
 use Rattle.group.specs.Group.{rulesGroup}
-use Rattle.panel.proofs.Panel.{drawn, next-low, next-stored, next-counted, all-written}
+use Rattle.panel.proofs.Panel.{drawn, numbers-are, weights-are, none-between, next-low, next-drawn, none-left}
+use Rattle.panel.proofs.Writing.{Writing, writing-none, writing-skip, writing-more}
 use Rattle.panel.proofs.write_panel.Statement.{statement}
 use Rattle.panel.proofs.write_panel.Tie as tie
 
@@ -16,102 +16,46 @@ abbrev Inv-loop : tie.InvT-loop
 Inv-loop numbers turnovers randoms g start largest sampled panel₀ weights₀ size from₀ k₀ panel weights from k =
     (from ≤ length turnovers)
     × (k ≤ g .q + g .n)
-    × (k ≡ count (drawn turnovers randoms g start) from)
-    × (panel ≡ listed (drawn turnovers randoms g start) (λ i. getD numbers i 0) from ++ drop k panel₀)
-    × (length panel ≡ length panel₀)
-    × (weights ≡ listed (drawn turnovers randoms g start) (baseWeight turnovers (rulesGroup turnovers g)) from ++ drop k weights₀)
-    × (length weights ≡ length weights₀)
+    × Writing (drawn turnovers randoms g start) (λ i. getD numbers i 0) (baseWeight turnovers (rulesGroup turnovers g)) panel₀ weights₀ panel weights from k
 
 abbrev μ-loop : tie.MeasureT-loop
 μ-loop numbers turnovers randoms g start largest sampled panel₀ weights₀ size from₀ k₀ panel weights from k = g .q + g .n - k
 
+-- the entry, from a turn
+abbrev start : tie.In-loop Inv-loop μ-loop → tie.Start Inv-loop μ-loop
+start c = c .before .before .before .before .before .before .before .before .before .before
+
 -- the unit that a turn writes
 module _ (c : tie.After-next-unit2 Inv-loop μ-loop) where
-  abbrev in-loop : tie.In-loop Inv-loop μ-loop
-  in-loop = c .before .before
-
-  abbrev at : tie.At-loop Inv-loop μ-loop
-  at = in-loop .before
+  abbrev turn : tie.In-loop Inv-loop μ-loop
+  turn = c .before .before
 
   abbrev s : tie.Start Inv-loop μ-loop
-  s = at .before .before .before .before .before .before .before .before .before
+  s = start turn
 
-  abbrev ts : List ℕ
-  ts = s .args .turnovers .now
+  abbrev i : ℕ
+  i = c .next-unit2 .result
 
-  abbrev rs : List ℕ
-  rs = s .args .randoms .now
-
-  low : c .next-unit2 .result < length ts
+  low : i < length (s .args .turnovers .now)
   low =
-      next-low ts rs (s .args .g) (s .args .start) (s .args .largest .now) (s .args .sampled .now) (s .pre .0 .0) (s .pre .0 .1) (at .loop .from) (c .before .next-unit .result) (c .next-unit2 .result) (at .loop .inv .0) (c .before .next-unit .ensures) (c .next-unit2 .ensures)
-      (omega (arith, at .loop .inv .2, in-loop .loop-test .taken))
+      let at = turn .before .loop in
+      next-low (s .pre .0 .0) (s .pre .0 .1) (at .inv .0) (c .before .next-unit .ensures) (c .next-unit2 .ensures)
+      (omega (arith, at .inv .2 .many, turn .loop-test .taken))
 
-  -- a buffer after the turn
-  stored : (f : ℕ → ℕ) (old now : List ℕ) (v : ℕ) → now ≡ listed (drawn ts rs (s .args .g) (s .args .start)) f (at .loop .from) ++ drop (at .loop .k) old → at .loop .k < length old → v ≡ f (c .next-unit2 .result) → set now (at .loop .k) v ≡ listed (drawn ts rs (s .args .g) (s .args .start)) f (c .next-unit2 .result + 1) ++ drop (at .loop .k + 1) old
-  stored f old now v e l h =
-      next-stored ts rs (s .args .g) (s .args .start) (s .args .largest .now) (s .args .sampled .now) (s .pre .0 .0) (s .pre .0 .1) (at .loop .from) (c .before .next-unit .result) (c .next-unit2 .result) (at .loop .inv .0) (c .before .next-unit .ensures) (c .next-unit2 .ensures) f old now (at .loop .k) v low e (at .loop .inv .2) l h
-
-  counted : at .loop .k + 1 ≡ count (drawn ts rs (s .args .g) (s .args .start)) (c .next-unit2 .result + 1)
-  counted =
-      ap (λ (n : ℕ). n + 1) (at .loop .inv .2)
-      ∙ next-counted ts rs (s .args .g) (s .args .start) (s .args .largest .now) (s .args .sampled .now) (s .pre .0 .0) (s .pre .0 .1) (at .loop .from) (c .before .next-unit .result) (c .next-unit2 .result) (at .loop .inv .0) (c .before .next-unit .ensures) (c .next-unit2 .ensures) low
-
-add-size : tie.Need-add-size Inv-loop μ-loop
-add-size c = omega (arith, c .before .before .before .before .before .before .before .before .pre .1 .1, c .before .before .before .before .before .before .before .before .good)
-
-loop-holds : tie.Need-loop-holds Inv-loop μ-loop
-unfolding listed
-loop-holds c = (omega arith, omega arith, sym (count-zero _), refl, refl, refl, refl)
-
-next-unit-requires : tie.Need-next-unit-requires Inv-loop μ-loop
-next-unit-requires c κs = c .before .before .before .before .before .before .before .before .before .before .pre .0 .1 .large-room
-
-next-unit-requires-2 : tie.Need-next-unit-requires-2 Inv-loop μ-loop
-next-unit-requires-2 c κs = c .before .before .before .before .before .before .before .before .before .before .before .pre .0 .1 .sampled-room
-
-mul-panel : tie.Need-mul-panel Inv-loop μ-loop
-mul-panel c = omega (arith, low c, c .before .before .before .before .before .before .before .before .before .before .before .before .pre .1 .0, c .before .before .before .before .before .before .before .before .before .before .before .before .good)
-
-shared-slice-read-panel : tie.Need-shared-slice-read-panel Inv-loop μ-loop
-shared-slice-read-panel c = omega (arith, low (c .before), c .before .before .before .before .before .before .before .before .before .before .before .before .before .pre .1 .0)
-
-mul-panel-2 : tie.Need-mul-panel-2 Inv-loop μ-loop
-mul-panel-2 c = omega (arith, c .before .before .before .loop-test .taken, c .before .before .before .before .before .before .before .before .before .before .before .before .before .pre .1 .1, c .before .before .before .before .before .before .before .before .before .before .before .before .before .good)
-
-slice-write-panel : tie.Need-slice-write-panel Inv-loop μ-loop
-slice-write-panel c = omega (arith, c .before .before .before .loop-test .taken, c .before .before .before .before .before .before .before .before .before .before .before .before .before .pre .1 .1, c .before .before .before .before .loop .inv .4)
-
-weight-of-requires : tie.Need-weight-of-requires Inv-loop μ-loop
-weight-of-requires c κs = (c .before .before .before .before .before .before .before .before .before .before .before .before .before .pre .0 .0, low (c .before))
-
-mul-weights : tie.Need-mul-weights Inv-loop μ-loop
-mul-weights c = omega (arith, c .before .before .before .before .loop-test .taken, c .before .before .before .before .before .before .before .before .before .before .before .before .before .before .pre .1 .2, c .before .before .before .before .before .before .before .before .before .before .before .before .before .before .good)
-
-slice-write-weights : tie.Need-slice-write-weights Inv-loop μ-loop
-slice-write-weights c = omega (arith, c .before .before .before .before .loop-test .taken, c .before .before .before .before .before .before .before .before .before .before .before .before .before .before .pre .1 .2, c .before .before .before .before .before .loop .inv .6)
-
-add-from : tie.Need-add-from Inv-loop μ-loop
-add-from c = omega (arith, low (c .before .before), c .before .before .before .before .before .before .before .before .before .before .before .before .before .before .good)
-
-add-k : tie.Need-add-k Inv-loop μ-loop
-add-k c = omega (arith, c .before .before .before .before .loop-test .taken, c .before .before .before .before .before .before .before .before .before .before .before .before .before .before .pre .1 .1, c .before .before .before .before .before .before .before .before .before .before .before .before .before .before .good)
-
-loop-less : tie.Need-loop-less Inv-loop μ-loop
-loop-less c = omega (arith, c .before .before .before .before .loop-test .taken)
+  -- its place in the buffers
+  places : (turn .before .loop .k < length (s .args .panel .now)) × (turn .before .loop .k < length (s .args .weights .now))
+  places = (omega (arith, turn .loop-test .taken, s .pre .1 .1), omega (arith, turn .loop-test .taken, s .pre .1 .2))
 
 loop-again : tie.Need-loop-again Inv-loop μ-loop
 loop-again c =
     let u = c .before .before in
-    let a = c .before .before .before .before .before .before .before .before .before .before .before .before .before .before .args in
-    let at = c .before .before .before .before .before .loop in (
+    let at = turn u .before .loop in
+    let p = s u .pre .0 in
+    let here = next-drawn (p .0) (p .1) (at .inv .0) (u .before .next-unit .ensures) (u .next-unit2 .ensures) (low u) in
+    let none = none-between (p .0) (p .1) (at .inv .0) (u .before .next-unit .ensures) (u .next-unit2 .ensures) in (
       omega (arith, low u),
-      omega (arith, c .before .before .before .before .loop-test .taken),
-      counted u,
-      stored u (λ i. getD (a .numbers .now) i 0) (a .panel .now) (at .panel) _ (at .inv .3) (omega (arith, c .before .before .before .before .loop-test .taken, c .before .before .before .before .before .before .before .before .before .before .before .before .before .before .pre .1 .1)) refl,
-      simp length-set (at .inv .4),
-      stored u (baseWeight (a .turnovers .now) (rulesGroup (a .turnovers .now) (a .g))) (a .weights .now) (at .weights) _ (at .inv .5) (omega (arith, c .before .before .before .before .loop-test .taken, c .before .before .before .before .before .before .before .before .before .before .before .before .before .before .pre .1 .2)) (c .weight-of .ensures),
-      simp length-set (at .inv .6),
+      omega (arith, turn u .loop-test .taken),
+      writing-more (writing-skip (at .inv .2) (i u) (here .0) none) (here .1) (places u .0) (places u .1) refl (c .weight-of .ensures),
     )
 
 returns : tie.Need-returns Inv-loop μ-loop
@@ -119,15 +63,26 @@ returns c =
     let s = c .before .before .before .before .before .before .before .before .before .before in
     let a = s .args in
     let at = c .before .loop in
-    let e : at .k ≡ a .g .q + a .g .n = omega (arith, at .inv .1, c .loop-test .left) in
-    let done = all-written (a .turnovers .now) (a .randoms .now) (a .g) (a .start) (a .largest .now) (a .sampled .now) (s .pre .0 .0) (s .pre .0 .1) in (
-      at .inv .3 ∙ ap₂ (λ (xs : List ℕ) (n : ℕ). xs ++ drop n (a .panel .now)) (done (λ i. getD (a .numbers .now) i 0) (at .from) (at .inv .0) (sym (at .inv .2) ∙ e)) e,
-      at .inv .5 ∙ ap₂ (λ (xs : List ℕ) (n : ℕ). xs ++ drop n (a .weights .now)) (done (baseWeight (a .turnovers .now) (rulesGroup (a .turnovers .now) (a .g))) (at .from) (at .inv .0) (sym (at .inv .2) ∙ e)) e,
+    let none = none-left (s .pre .0 .0) (s .pre .0 .1) (at .from) (omega (arith, at .inv .2 .many, at .inv .1, c .loop-test .left)) in
+    let done = writing-skip (at .inv .2) (length (a .turnovers .now)) (at .inv .0) none in (
+      done .panel-is ∙ ap (λ (xs : List ℕ). written 0 xs (a .panel .now)) (numbers-are _ _ _ (a .g) _),
+      done .weights-is ∙ ap (λ (xs : List ℕ). written 0 xs (a .weights .now)) (weights-are (a .numbers .now) _ _ (a .g) _),
     )
 
 pub write-panel-spec : {M : Type 1} → statement M
 write-panel-spec =
     tie.close
-    (tie.spec Inv-loop μ-loop add-size loop-holds next-unit-requires next-unit-requires-2 mul-panel shared-slice-read-panel mul-panel-2
-    slice-write-panel weight-of-requires mul-weights slice-write-weights add-from add-k loop-less loop-again (λ c. c .before .loop .inv .4)
-    (λ c. c .before .loop .inv .6) returns)
+    (tie.spec Inv-loop μ-loop
+    (λ c. let s = c .before .before .before .before .before .before .before .before in omega (arith, s .pre .1 .1, s .good))
+    (λ c. (omega arith, omega arith, writing-none))
+    (λ c κs. start c .pre .0 .1 .large-room) (λ c κs. start (c .before) .pre .0 .1 .sampled-room)
+    (λ c. omega (arith, low c, s c .pre .1 .0, s c .good)) (λ c. omega (arith, low (c .before), s (c .before) .pre .1 .0))
+    (λ c. omega (arith, places (c .before), s (c .before) .good))
+    (λ c. omega (arith, places (c .before), turn (c .before) .before .loop .inv .2 .panel-room))
+    (λ c κs. (s (c .before) .pre .0 .0, low (c .before)))
+    (λ c. omega (arith, places (c .before .before), s (c .before .before) .good))
+    (λ c. omega (arith, places (c .before .before), turn (c .before .before) .before .loop .inv .2 .weights-room))
+    (λ c. omega (arith, low (c .before .before), s (c .before .before) .good))
+    (λ c. omega (arith, places (c .before .before), s (c .before .before) .good))
+    (λ c. omega (arith, turn (c .before .before) .loop-test .taken)) loop-again
+    (λ c. c .before .loop .inv .2 .panel-room) (λ c. c .before .loop .inv .2 .weights-room) returns)

@@ -2,7 +2,7 @@
 use native.Mathlib.Omega.{arith}
 use mathlib.Core.Path.{_≡_, refl}
 use Prim.Native.Nat.{_+_, _-_, _≤_}
-use lib.ListN.{length, drop}
+use lib.ListN.{length, getD, drop}
 use Rattle.rules.specs.Limits.{mostWeight}
 use Rattle.rules.specs.Lists.{sum}
 use Rattle.rules.proofs.Lists.{sum-step, sum-end}
@@ -20,23 +20,14 @@ loop-holds c =
     let e : drop 0 (c .args .weights .now) ≡ c .args .weights .now = refl in
     omega arith
 
-returns : tie.Need-returns Inv-loop μ-loop
-returns c =
-    let l = c .before .before .before in
-    omega (arith, sum-step (l .before .args .weights .now) (l .loop .i) (c .before .before .loop-test .taken))
-
-loop-again : tie.Need-loop-again Inv-loop μ-loop
-loop-again c =
-    let l = c .before .before .before in
-    omega (arith, sum-step (l .before .args .weights .now) (l .loop .i) (c .before .before .loop-test .taken))
-
-returns-2 : tie.Need-returns-2 Inv-loop μ-loop
-returns-2 c =
-    let l = c .before in
-    omega (arith, sum-end (l .before .args .weights .now) (l .loop .i) (c .loop-test .left))
+turn : (s : tie.In-loop Inv-loop μ-loop) → let w = s .before .before .args .weights .now in let i = s .before .loop .i in
+    sum (drop i w) ≡ getD w i 0 + sum (drop (i + 1) w)
+turn s = sum-step (s .before .before .args .weights .now) (s .before .loop .i) (s .loop-test .taken)
 
 pub capped-sum-spec : {M : Type 1} → statement M
 capped-sum-spec =
     tie.close
-    (tie.spec Inv-loop μ-loop loop-holds (λ c. omega arith) (λ c. omega arith) (λ c. omega arith) (λ c. omega arith) returns (λ c. omega arith)
-    (λ c. omega arith) (λ c. omega arith) loop-again returns-2)
+    (tie.spec Inv-loop μ-loop loop-holds (λ c. omega arith) (λ c. omega arith) (λ c. omega arith) (λ c. omega arith)
+    (λ c. omega (arith, turn (c .before .before))) (λ c. omega arith) (λ c. omega arith) (λ c. omega arith)
+    (λ c. omega (arith, turn (c .before .before)))
+    (λ c. omega (arith, sum-end (c .before .before .args .weights .now) (c .before .loop .i) (c .loop-test .left))))

@@ -3,36 +3,36 @@ use mathlib.Core.Path.{refl, sym, ap, _∙_}
 use Prim.Native.Nat.{ℕ}
 use native.Mathlib.Omega.{arith}
 use Rattle.rules.specs.Lines.{refusalLine}
-use Rattle.rules.specs.Job.{Step}
 use Rattle.stream.specs.Value.{readingFrom}
 use Rattle.lines.specs.Laid.{lineRoom}
-use Rattle.jobstate.specs.State.{jobOf}
-use Rattle.run.specs.Turn.{turnAfter}
 use Rattle.texts.proofs.Texts.{laid-all}
-use Rattle.run.proofs.Turns.{turn-is, renders-as}
+use Rattle.run.proofs.Turns.{renders, command-renders}
 use borrow.Author.Needs.{needs}
 use Rattle.run.proofs.turn.Statement.{statement}
 use Rattle.run.proofs.turn.Tie as tie
 
 returns : tie.Need-returns
 returns c =
-    let a = c .before .before .before .before .before .before .before .before .before .args in
-    let e = turn-is (a .total) (a .s .now) (jobOf (a .job)) _ _ (sym (c .before .before .before .before .before .before .read .ensures) ∙ ap readingFrom (c .before .before .before .before .reading .given .1)) (c .before .before .before .before .before .before .before .offset .ensures) in
-    let l = laid-all lineRoom _ _ _ _ _ (ap (λ (k : ℕ). refusalLine k (c .before .before .before .before .before .before .before .offset .result)) (c .before .number .ensures)) (omega (arith, c .before .before .refusal-line-arg .given)) (c .refusal-line .ensures .0) (c .refusal-line .ensures .1) in
-    renders-as (sym e) refl refl (l .0) (l .1)
+    let r = c .before .before .before .before .before .before in
+    let at = r .before .offset in
+    let line = ap (λ (k : ℕ). refusalLine k (at .result)) (c .before .number .ensures) in
+    let l = laid-all lineRoom _ _ _ _ _ line (omega (arith, c .before .before .refusal-line-arg .given)) (c .refusal-line .ensures) in
+    renders _ _ _ _ _ _ _ (at .result) (sym (ap readingFrom (c .before .before .before .before .reading .given .1)) ∙ r .reading-at .ensures) (at .ensures)
+    refl refl refl (l .0) (l .1)
 
 returns-2 : tie.Need-returns-2
 returns-2 c =
-    let a = c .before .before .before .before .before .args in
-    let e = turn-is (a .total) (a .s .now) (jobOf (a .job)) _ _ (sym (c .before .before .read .ensures) ∙ ap readingFrom (c .enum-told .given .1)) (c .before .before .before .offset .ensures) in
-    renders-as (sym e) refl refl refl refl
+    let r = c .before .before in
+    let at = r .before .offset in
+    renders _ _ _ _ _ _ _ (at .result) (sym (ap readingFrom (c .enum-told .given .1)) ∙ r .reading-at .ensures) (at .ensures) refl refl refl refl refl
 
 returns-3 : tie.Need-returns-3
 returns-3 c =
-    let a = c .before .before .before .before .before .before .before .before .before .before .before .args in
-    let e = turn-is (a .total) (a .s .now) (jobOf (a .job)) _ _ (sym (c .before .before .before .before .before .before .before .before .read .ensures) ∙ ap readingFrom (c .before .before .before .before .before .before .reading2 .given .1)) (c .before .before .before .before .before .before .before .before .before .offset .ensures) in
-    let d = ap (λ (x : Step). turnAfter x (c .before .before .before .before .before .before .before .before .before .offset .result)) (c .before .before .before .before .step .ensures) in
-    renders-as (d ∙ sym e) refl (c .before .before .before .continues .ensures) (c .before .lay .ensures .0) (c .before .lay .ensures .1)
+    let s = c .before .before .before .before in
+    let r = s .before .before .before .before in
+    let at = r .before .offset in
+    command-renders _ _ _ _ _ _ _ (at .result) (sym (ap readingFrom (s .before .before .reading2 .given .1)) ∙ r .reading-at .ensures) (at .ensures) _
+    (s .step .ensures) refl (c .before .before .before .continues .ensures) (c .before .lay .ensures)
 
 pub turn-spec : {M : Type 1} → statement M
 turn-spec =

@@ -1,13 +1,14 @@
 -- The two ends come together; nothing is promised of where.
 use native.Mathlib.Omega.{arith}
 use Prim.Native.Nat.{_-_, _≤_}
-use Rattle.bounds.specs.Bound.{mostWord}
+use mir.Syntax.{w64}
+use mir.Val.{Fits}
 use borrow.Author.Needs.{needs}
 use Rattle.search.proofs.nth.Statement.{statement}
 use Rattle.search.proofs.nth.Tie as tie
 
 abbrev Inv-loop : tie.InvT-loop
-Inv-loop parts z low₀ high₀ low high = (low ≤ high) × (high ≤ mostWord)
+Inv-loop parts z low₀ high₀ low high = (low ≤ high) × Fits w64 high
 
 abbrev μ-loop : tie.MeasureT-loop
 μ-loop parts z low₀ high₀ low high = high - low

@@ -13,11 +13,8 @@ Inv-loop parts t many₀ j₀ many j = (j ≤ length parts) × (many ≤ j)
 abbrev μ-loop : tie.MeasureT-loop
 μ-loop parts t many₀ j₀ many j = length parts - j
 
-loop-again : tie.Need-loop-again Inv-loop μ-loop
-loop-again c = (omega arith, ⊎-elim (λ w. omega (arith, w .1)) (λ w. omega (arith, w .1)) (c .if1 .came))
-
 pub tally-spec : {M : Type 1} → statement M
 tally-spec =
     tie.close
     (tie.spec Inv-loop μ-loop (λ c. (omega arith, omega arith)) (λ c. search needs) (λ c. search needs) (λ c. search needs) (λ c. search needs)
-    (λ c. search needs) loop-again (λ c. tt))
+    (λ c. search needs) (λ c. (omega arith, ⊎-elim (λ w. omega (arith, w .1)) (λ w. omega (arith, w .1)) (c .if1 .came))) (λ c. tt))

@@ -1,45 +1,37 @@
 -- A refused verdict answers its number and leaves the marks; an accepted one gives the facts that the inner functions ask for.
-use mathlib.Core.Path.{_≡_, sym, ap, _∙_}
+use mathlib.Core.Path.{_≡_, refl, sym, ap, _∙_}
 use borrow.Author.Needs.{needs}
-use Rattle.rules.specs.TakeAll.{takeAllRefusal}
+use Rattle.rules.specs.TakeAll.{takeAllRefusal, takeAllAnswer, takeAllMarks}
 use Rattle.refusals.specs.Number.{verdictOf}
-use Rattle.takeall.proofs.Refusals.{answer-refused, marks-refused, answer-accepted, sized, room}
-use Rattle.takeall.proofs.Marks.{taken-by, marks-accepted}
+use Rattle.refusals.proofs.Numbers.{number-is-suc}
+use Rattle.group.proofs.Accepted.{sized, group-is}
+use Rattle.takeall.proofs.Accepted.{accepted}
 use Rattle.takeall.proofs.take_all.Statement.{statement}
 use Rattle.takeall.proofs.take_all.Tie as tie
 
 -- the verdict is the definition's
-accepted : (c : tie.After-enum-told) →
+none : (c : tie.After-enum-told) →
     let a = c .before .before .before .before .before .before .args in
     takeAllRefusal (a .turnovers .now) (a .z) (a .marks .now) ≡ 0
-accepted c = sym (c .before .before .judge .ensures) ∙ ap verdictOf (c .enum-told .given .1)
+none c = sym (c .before .before .judge .ensures) ∙ ap verdictOf (c .enum-told .given .1)
 
 find-group-requires : tie.Need-find-group-requires
-find-group-requires c κs =
-    let a = c .before .before .before .before .before .before .args in
-    sized (a .turnovers .now) (a .z) (a .marks .now) (accepted c)
+find-group-requires c κs = sized _ _ (accepted _ _ _ (none c) .units)
 
 mark-requires : tie.Need-mark-requires
-mark-requires c κs =
-    let a = c .before .before .before .before .before .before .before .before .args in
-    (room (a .turnovers .now) (a .z) (a .marks .now) (accepted (c .before .before)), c .before .find-group .ensures .last-is)
+mark-requires c κs = (accepted _ _ _ (none (c .before .before)) .room, c .before .find-group .ensures .last-is)
 
 returns : tie.Need-returns
+unfolding takeAllAnswer takeAllMarks
 returns c =
-    let a = c .before .before .before .before .before .before .before .args in
-    let why = c .before .verdict .given .0 .0 in
-    let e : takeAllRefusal (a .turnovers .now) (a .z) (a .marks .now) ≡ _ = sym (c .before .before .before .judge .ensures) ∙ ap verdictOf (c .before .verdict .given .1) in
-    (sym (answer-refused (a .turnovers .now) (a .z) (a .marks .now) why e), sym (marks-refused (a .turnovers .now) (a .z) (a .marks .now) why e))
+    let v = c .before .verdict .given in
+    rw (sym (c .before .before .before .judge .ensures) ∙ ap verdictOf (v .1), number-is-suc (v .0 .0)) (refl, refl)
 
 returns-2 : tie.Need-returns-2
+unfolding takeAllAnswer takeAllMarks
 returns-2 c =
-    let a = c .before .before .before .before .before .before .before .before .before .before .before .args in
-    let ts = a .turnovers .now in
-    let e = accepted (c .before .before .before .before .before) in
-    let g = c .before .before .before .before .find-group .ensures in (
-      taken-by (g .size) (g .sample) (g .rest-is) ∙ sym (answer-accepted ts (a .z) (a .marks .now) e),
-      c .before .before .mark .ensures ∙ sym (marks-accepted ts (a .z) (a .marks .now) _ e (g .size)),
-    )
+    let g = c .before .before .before .before .find-group .ensures in
+    rw (none (c .before .before .before .before .before), ← group-is _ _ _ g, ← g .size) (refl, c .before .before .mark .ensures)
 
 pub take-all-spec : {M : Type 1} → statement M
 take-all-spec =

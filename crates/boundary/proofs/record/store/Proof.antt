@@ -1,4 +1,4 @@
--- `store`: three numbers and then the weights, laid over the first 103 places.
+-- `store`: three numbers and then the weights, over the first places.
 use mathlib.Core.Path.{_≡_, _∙_}
 use native.Mathlib.Omega.{arith}
 use lib.ListN.{length, set, length-set, length-take, length-drop}
@@ -18,12 +18,13 @@ same-length : tie.Need-same-length
 same-length c =
     let a = c .before .before .before .before .before .before .before .args in
     let three = set (set (set (a .lent .now) 0 (a .chain .units)) 1 (a .chain .index)) 2 (a .chain .closes) in
-    same-len-mid 3 100 three (c .before .before .copy .last .1 .0) (c .before .before .copy .kept .1 .0) ∙ simp length-set
+    same-len-mid 3 mostPanel three (c .before .before .copy .last .1 .0) (c .before .before .copy .kept .1 .0) ∙ simp length-set
 
 returns : tie.Need-returns
 returns c =
     let a = c .before .before .before .before .before .before .before .args in
-    rw (c .before .before .copy .ensures) (laid (a .lent .now) (a .chain .weights) (a .chain .units) (a .chain .index) (a .chain .closes) (omega arith))
+    rw (c .before .before .copy .ensures)
+    (laid (a .lent .now) (a .chain .weights) (a .chain .units) (a .chain .index) (a .chain .closes) (omega arith) (search needs))
 
 pub store-spec : {M : Type 1} → statement M
 store-spec =

@@ -2,39 +2,32 @@
 use native.Mathlib.Omega.{arith}
 use mathlib.Core.Bool.{true, false}
 use mathlib.Core.Path.{refl, _∙_}
-use Rattle.selection.proofs.Logic.{not-both}
+use Rattle.rules.proofs.Tests.{not-both}
 use Rattle.terms.proofs.ByGaps.{units-of}
 use Rattle.panel.proofs.Short.{reach-at}
 use borrow.Author.Needs.{needs}
 use Rattle.panel.proofs.told.tell.Statement.{statement}
 use Rattle.panel.proofs.told.tell.Tie as tie
 
-add-find : tie.Need-add-find
-add-find c = omega (arith, c .before .before .before .before .before .pre .0 .few, c .before .before .before .before .before .good)
-
-find-requires : tie.Need-find-requires
-find-requires c κs =
-    let s = c .before .before .before .before .before in
-    (units-of _ _ _ _ _ (s .pre .0) (s .pre .1), reach-at _ _ _ _ _ _ (s .pre .0) (s .pre .1) (c .before .reach-of .ensures))
-
-returns : tie.Need-returns
-returns c =
-    let s = c .before .before .before .before .before .before .before .before in
+pub tell-spec : {M : Type 1} → statement M
+tell-spec =
+    tie.close
+    (tie.spec (λ c κs. c .before .before .before .pre .0 .size-low)
+    (λ c. let s = c .before .before .before .before .before in omega (arith, s .pre .0 .few, s .good))
+    (λ c κs.
+    let p = c .before .before .before .before .before .pre in
+    (units-of _ _ _ _ _ (p .0) (p .1), reach-at _ _ _ _ _ _ (p .0) (p .1) (c .before .reach-of .ensures)))
+    (λ c.
+    let p = c .before .before .before .before .before .before .before .before .pre in
     let f = c .before .before .find .ensures (c .if1 .taken) in
     record {
       by-bound = λ h. f .bounds;
-      reach-low = λ h. reach-at _ _ _ _ _ _ (s .pre .0) (s .pre .1) (f .reach-is ∙ c .before .before .before .before .reach-of .ensures);
+      reach-low = λ h. reach-at _ _ _ _ _ _ (p .0) (p .1) (f .reach-is ∙ c .before .before .before .before .reach-of .ensures);
       by-key = λ h. absurd (not-both true refl h);
-    }
-
-returns-2 : tie.Need-returns-2
-returns-2 c =
-    record {
+    })
+    (λ c κs. search needs)
+    (λ c. record {
       by-bound = λ h. absurd (not-both false h refl);
       reach-low = λ h. absurd (not-both false h refl);
       by-key = λ h. c .last-sampled .ensures;
-    }
-
-pub tell-spec : {M : Type 1} → statement M
-tell-spec =
-    tie.close (tie.spec (λ c κs. c .before .before .before .pre .0 .size-low) add-find find-requires returns (λ c κs. search needs) returns-2)
+    }))
