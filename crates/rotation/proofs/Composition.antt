@@ -1,6 +1,6 @@
 -- A rotation that refusals 1 to 7 let pass, put together from what its callees ensure: the group, the members, the first step, and the
 -- leavers at its start are those of the definition.
-use mathlib.Core.Path.{_≡_, refl, sym, ap, _∙_, subst}
+use mathlib.Core.Path.{_≡_, refl, sym, _∙_}
 use mathlib.Core.Bool.{Bool}
 use mathlib.Core.List.{List, []}
 use Prim.Native.Nat.{ℕ, _≤_, _<_}
@@ -11,7 +11,7 @@ use borrow.Author.Tests.{le-leb, lt-leb}
 use Rattle.rules.specs.Limits.{steps}
 use Rattle.rules.specs.Refusals.{Judged, refuse, _then_, written}
 use Rattle.rules.specs.Selection.{every}
-use Rattle.rules.specs.TakeAll.{Frame, frame, takeAllGroup, Group as RulesGroup}
+use Rattle.rules.specs.TakeAll.{Frame, frame, takeAllGroup}
 use Rattle.rules.specs.Draw.{frameRefusal}
 use Rattle.rules.specs.Rotation.{member, required, startAt, leaves, leastStep, leavers, oldPanelRefusal, rotationRefusal, rotationAnswer, rotationLeavers}
 use Rattle.rules.proofs.Refusals.{then-none, then-goes, then-assoc}

@@ -39,7 +39,7 @@ pub extern "C" fn vougecress_draw(
         draw::Answer::Refused(why) => Drawn {
             refusal: why.number() as u32,
             n: 0,
-            rest: 1,
+            rest: 0,
         },
     }
 }

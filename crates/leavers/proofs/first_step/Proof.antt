@@ -1,6 +1,6 @@
 -- `first_step` meets its contract: no step before k was enough, so the smallest is the smallest from k on.
 use mathlib.Core.Path.{_≡_, refl, sym, _∙_}
-use Prim.Native.Nat.{_-_, _≤_}
+use Prim.Native.Nat.{_-_, _≤_, _<_}
 use native.Mathlib.Omega.{arith}
 use borrow.Author.Needs.{needs}
 use Rattle.rules.specs.Limits.{steps}
@@ -36,14 +36,16 @@ returns c =
     let at = c .before .before in
     let l = at .before .before .before .loop in
     let hit = enough _ _ _ _ _ (l .k) _ (at .before .start-at .ensures) _ (at .find-leavers .ensures) (c .if1 .taken) in
-    sym (l .inv .1 ∙ least-hit _ steps (l .k) (at .before .before .loop-test .taken) hit)
+    let below : l .k < steps = omega (arith, at .before .before .loop-test .taken) in
+    sym (l .inv .1 ∙ least-hit _ steps (l .k) below hit)
 
 loop-again : tie.Need-loop-again Inv-loop μ-loop
 loop-again c =
     let at = c .before .before in
     let l = at .before .before .before .loop in
     let miss = too-few _ _ _ _ _ (l .k) _ (at .before .start-at .ensures) _ (at .find-leavers .ensures) (c .if1 .left) in
-    (omega arith, l .inv .1 ∙ least-miss _ steps (l .k) (at .before .before .loop-test .taken) miss)
+    let below : l .k < steps = omega (arith, at .before .before .loop-test .taken) in
+    (omega arith, l .inv .1 ∙ least-miss _ steps (l .k) below miss)
 
 returns-2 : tie.Need-returns-2 Inv-loop μ-loop
 returns-2 c =

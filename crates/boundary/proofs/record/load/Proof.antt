@@ -3,7 +3,6 @@ use mathlib.Core.Path.{ap}
 use mathlib.Core.List.{List}
 use Prim.Native.Nat.{ℕ}
 use lib.ListN.{getD}
-use Rattle.figures.specs.Steps.{recordWith}
 use borrow.Author.Needs.{needs}
 use Rattle.boundary.proofs.record.load.Statement.{statement}
 use Rattle.boundary.proofs.record.load.Tie as tie
@@ -12,7 +11,7 @@ returns : tie.Need-returns
 returns c =
     let l = c .before .before .before .before in
     let xs = l .before .before .before .before .args .lent .now in
-    ap (λ (w : List ℕ). recordWith w (getD xs 0 0) (getD xs 1 0) (getD xs 2 0)) (l .copy .ensures)
+    ap (λ (w : List ℕ). record { weights = w; units = getD xs 0 0; index = getD xs 1 0; closes = getD xs 2 0 }) (l .copy .ensures)
 
 pub load-spec : {M : Type 1} → statement M
 load-spec =
