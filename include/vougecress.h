@@ -3,8 +3,7 @@
  *
  * Lists are lent for the length of a call: a pointer and a count of elements. A call reads its input lists and writes only
  * what is said below. Every function takes any list and any number. It answers a result, with `refusal` 0, or one refusal
- * number of document 01, with every other field of the answer 0 (but the length that a run answers); after a refusal every
- * lent list is as it was.
+ * number of document 01, with every other field of the answer 0; after a refusal every lent list is as it was.
  * A null pointer is allowed where the count is 0. Lists that are lent to be written may not overlap other lists of the call.
  * No call asks for memory of its own but on the stack, of which it takes up to 256 KB. Nothing is kept between calls, so that
  * threads may call at once, each with its own lists.
@@ -204,7 +203,7 @@ struct vougecress_reading {
 
 struct vougecress_printed {
     uint32_t refusal;
-    uint64_t length; /* bytes of the whole text, after a refusal too */
+    uint64_t length; /* bytes of the text that was written */
 };
 
 /*
@@ -216,10 +215,12 @@ struct vougecress_reading vougecress_read(const uint8_t *stream, size_t stream_c
 /*
  * Does a whole stream and writes what the program chainrun prints for it into the first `length` places of `out`; places
  * beyond stay, and no zero byte is added. What the stream itself is refused by is a line of the text (`R number offset`) and
- * no refusal of the call. Refusal 6: `out` is shorter than the text. Then `out` is as it was, and `length` says how many
- * places the text takes, so that a first call with an empty buffer asks for the length.
+ * no refusal of the call. Refusal 6: `out` is shorter than the text; it is then as it was.
  */
 struct vougecress_printed vougecress_run(const uint8_t *stream, size_t stream_count, uint8_t *out, size_t out_count);
+
+/* The bytes of the text that vougecress_run writes for a stream. It only counts, and refuses nothing. */
+uint64_t vougecress_run_length(const uint8_t *stream, size_t stream_count);
 
 #ifdef __cplusplus
 }

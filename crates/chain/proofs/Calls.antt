@@ -18,10 +18,10 @@ use Rattle.rules.specs.Chain.{callInputRefusal, newWeightRefusal, callRefusal}
 use Rattle.rules.proofs.Refusals.{then-goes, given-tells, refused-tells}
 use Rattle.rules.proofs.Lists.{length-scaled, scaled-take, products-take}
 use Rattle.rules.proofs.Chains.{Admitted, admitted}
-use Rattle.passes.proofs.Relatives.{products-bound}
-use Rattle.figures.specs.Steps.{recordWith, Reckoning, reckoningOf, reckonedOf, reckonedFrom}
-use Rattle.figures.specs.declared.Reckoned.{Reckoned}
-use Rattle.figures.specs.declared.Reckoned.the-variants.{Refused, Figure}
+use Rattle.chain_sums.proofs.Relatives.{products-bound}
+use Rattle.chain_figure.specs.Steps.{recordWith, Reckoning, reckoningOf, reckonedOf, reckonedFrom}
+use Rattle.chain_figure.specs.declared.Reckoned.{Reckoned}
+use Rattle.chain_figure.specs.declared.Reckoned.the-variants.{Refused, Figure}
 
 -- ---- the answer and the record
 module _ (r : Chain) (call : Call) where

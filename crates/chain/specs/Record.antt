@@ -4,7 +4,7 @@ use Rattle.refusals.specs.Number.{numberOf}
 use Rattle.refusals.specs.declared.Refusal.{Refusal}
 use Rattle.rules.specs.Refusals.{Judged}
 use Rattle.rules.specs.Chain as rules
-use Rattle.figures.specs.Steps.{recordWith}
+use Rattle.chain_figure.specs.Steps.{recordWith}
 use Rattle.chain.specs.declared.Chain.{Chain}
 use Rattle.chain.specs.declared.Answer.{Answer}
 use Rattle.chain.specs.declared.Answer.the-variants.{Figure, Refused}

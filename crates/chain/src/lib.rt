@@ -1,10 +1,10 @@
-// Document 01, "Chain record": quarter and close, by value on the record. The crate `figures` has the steps of both; opening a record is
-// the crate `opening`.
-use figures::Reckoned;
+// Document 01, "Chain record": quarter and close, by value on the record. The crate `chain_figure` has the steps of both; opening a record is
+// the crate `chain_open`.
+use chain_figure::Reckoned;
 use limits::MOST_PANEL;
 use refusals::Refusal;
 use refusals::Verdict;
-use relative::Relative;
+use chain_relative::Relative;
 ghost use mathlib.Core.Path.{_≡_};
 ghost use Rattle.rules.specs.Chain.{Call, callAnswer, after};
 ghost use Rattle.chain.specs.Record.{recordOf, answerFrom, refusedWith, figuredWith};
@@ -55,7 +55,7 @@ impl Chain {
         let n = self.units;
         let index = self.index;
         let closes = self.closes;
-        let reckoned = figures::reckon(&self.weights, n, index, closes, p);
+        let reckoned = chain_figure::reckon(&self.weights, n, index, closes, p);
         match reckoned {
             Reckoned::Refused(why) => refused(self, why),
             Reckoned::Figure(f, late) => match late {
@@ -73,13 +73,13 @@ impl Chain {
         let n = self.units;
         let index = self.index;
         let closes = self.closes;
-        let reckoned = figures::reckon(&self.weights, n, index, closes, p);
+        let reckoned = chain_figure::reckon(&self.weights, n, index, closes, p);
         match reckoned {
             Reckoned::Refused(why) => refused(self, why),
             Reckoned::Figure(f, late) => {
                 let mut next = self.weights;
-                passes::scale_into(&self.weights, p, Relative::SCALE, &mut next[..n]);
-                let last = figures::judge_close(&self.weights, &next, n, late);
+                chain_sums::scale_into(&self.weights, p, Relative::SCALE, &mut next[..n]);
+                let last = chain_figure::judge_close(&self.weights, &next, n, late);
                 match last {
                     Verdict::Refused(why) => refused(self, why),
                     Verdict::Accepted => {

@@ -1,18 +1,18 @@
 // The program `chainrun` (document 01, "Job stream"): reads a stream from standard input and prints the lines of each command as it is done,
-// until the end or the first refusal. What all turns print is the crate `run`, proofs/Whole.antt.
+// until the end or the first refusal. What all turns print is the crate `job_turn`, proofs/Whole.antt.
 // A program has no exit status: a read or a write that fails is told on standard error, with the system's reason, and ends the run.
 use libc::STDERR_FILENO;
 use libc::STDIN_FILENO;
 use libc::STDOUT_FILENO;
-use texts::TEXT_ROOM;
+use job_text::TEXT_ROOM;
 ghost use mathlib.Core.Path.{_≡_};
 ghost use Prim.Native.Nat.{suc, _*_};
 ghost use lib.ListN.{length};
 ghost use Rattle.io.specs.Counts.{Counts};
 ghost use Rattle.rules.specs.Limits.{mostStream, mostPanel};
-ghost use Rattle.lines.specs.Laid.{lineRoom};
+ghost use Rattle.text_lines.specs.Laid.{lineRoom};
 
-// The longest stream and one byte more, by which a longer one is known (`run`, proofs/Whole.antt, `cut`).
+// The longest stream and one byte more, by which a longer one is known (`job_turn`, proofs/Whole.antt, `cut`).
 const STREAM_ROOM: usize = 32769;
 
 // What reading gave: how many bytes it put at the start of a buffer, and whether it ended because a read failed.
@@ -86,9 +86,9 @@ fn say_no_arguments() {
 fn run_stream(stream: &[u8]) {
     let mut text = text_room();
     let mut unread = stream;
-    let mut held = jobstate::empty();
+    let mut held = job_state::empty();
     loop {
-        let turned = run::turn(stream.len(), unread, held, &mut text);
+        let turned = job_turn::turn(stream.len(), unread, held, &mut text);
         let count = turned.count;
         if !io::write_all(STDOUT_FILENO, &text[..count]) {
             say_write_failed();
@@ -99,7 +99,7 @@ fn run_stream(stream: &[u8]) {
         }
         let next = turned.job;
         held = next;
-        let rest = front::unread(unread);
+        let rest = stream_front::unread(unread);
         unread = rest;
     }
 }

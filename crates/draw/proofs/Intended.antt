@@ -10,7 +10,7 @@ use Rattle.rules.specs.Selection.{count, byKey, listed}
 use Rattle.rules.specs.TakeAll.{Frame, Group, turnover, takeAllSize, takeAllGroup, baseWeight}
 use Rattle.rules.specs.Draw.{keyBelow, notTakeAll, sampledBy, drawnBy, panelNumbers, panelWeights, frameRefusal}
 use Rattle.frame.proofs.Accepted.{Accepted, accepted}
-use Rattle.keys.proofs.Keys.{keys-order-among}
+use Rattle.draw_key.proofs.Keys.{keys-order-among}
 use Rattle.selection.proofs.Orders.{Order}
 use Rattle.selection.proofs.TakeAll.{outside-below}
 use Rattle.selection.proofs.Panel.{sampled-count, panel-count, panel-rises}

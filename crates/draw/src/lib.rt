@@ -9,11 +9,11 @@ ghost use lib.ListN.{length};
 ghost use Rattle.rules.specs.TakeAll.{frame};
 ghost use Rattle.rules.specs.Draw.{drawRefusal, drawAnswer, drawNumbers, drawWeights};
 ghost use Rattle.refusals.specs.Number.{verdictOf};
-ghost use Rattle.largest.specs.Sized.{Sized};
+ghost use Rattle.group_largest.specs.Sized.{Sized};
 ghost use Rattle.group.specs.Group.{IsGroup};
-ghost use Rattle.terms.specs.Terms.{Ready};
-ghost use Rattle.terms.specs.Gaps.{Gaps};
-ghost use Rattle.panel.specs.Panel.{numbersOver, weightsOver};
+ghost use Rattle.draw_terms.specs.Terms.{Ready};
+ghost use Rattle.draw_terms.specs.Gaps.{Gaps};
+ghost use Rattle.draw_panel.specs.Panel.{numbersOver, weightsOver};
 ghost use Rattle.draw.specs.Answer.{answerFrom};
 
 // Units of a small frame: as many as a job holds.
@@ -67,9 +67,9 @@ fn write_ordered(
     ensures { λ _. ⌜ now (panel .exit) ≡ numbersOver (now (numbers .entry)) (now (turnovers .entry)) (now (randoms .entry)) g start (now (panel .entry)) ⌝ }
     ensures { λ _. ⌜ now (weights .exit) ≡ weightsOver (now (numbers .entry)) (now (turnovers .entry)) (now (randoms .entry)) g start (now (weights .entry)) ⌝ }
 {
-    let largest = largest::largest_units(turnovers, g.q + g.n);
-    let sampled = ranking::sampled_units(turnovers, randoms, gaps, g, start);
-    panel::write_panel(
+    let largest = group_largest::largest_units(turnovers, g.q + g.n);
+    let sampled = draw_order::sampled_units(turnovers, randoms, gaps, g, start);
+    draw_panel::write_panel(
         numbers,
         turnovers,
         randoms,
@@ -100,11 +100,11 @@ fn draw_with(
     ensures { λ g. ⌜ now (weights .exit) ≡ weightsOver (now (numbers .entry)) (now (turnovers .entry)) (now (randoms .entry)) g start (now (weights .entry)) ⌝ }
 {
     let g = group::find_group(turnovers, z);
-    terms::gaps::fill(turnovers, g, gaps);
-    let reach = bounds::reach_of(g.n as u64);
-    let found = shortlist::find(turnovers, randoms, gaps, start, reach, z);
+    draw_terms::gaps::fill(turnovers, g, gaps);
+    let reach = draw_bound::reach_of(g.n as u64);
+    let found = draw_list::find(turnovers, randoms, gaps, start, reach, z);
     if found.sure {
-        panel::write_found(numbers, turnovers, randoms, g, start, found, panel, weights);
+        draw_panel::write_found(numbers, turnovers, randoms, g, start, found, panel, weights);
         return g;
     }
     write_ordered(numbers, turnovers, randoms, gaps, g, start, panel, weights);

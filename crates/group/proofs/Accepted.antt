@@ -6,7 +6,7 @@ use native.Mathlib.Omega.{arith}
 use Rattle.rules.specs.TakeAll.{takeAllSize, takeAllGroup}
 use Rattle.frame.proofs.Accepted.{Units}
 use Rattle.selection.proofs.TakeAll.{size-le}
-use Rattle.largest.specs.Sized.{Sized}
+use Rattle.group_largest.specs.Sized.{Sized}
 use Rattle.group.specs.declared.Group.{Group}
 use Rattle.group.specs.Group.{IsGroup, rulesGroup}
 

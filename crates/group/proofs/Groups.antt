@@ -13,7 +13,7 @@ use Rattle.rules.specs.TakeAll.{turnover, largest, restWithout, reachesRest, fi
 use Rattle.selection.proofs.Sums.{sum-same, sum-none, sum-list}
 use Rattle.selection.proofs.Least.{least-hit}
 use Rattle.selection.proofs.TakeAll.{largest-none, size-start, rest-hit}
-use Rattle.largest.specs.Sized.{Sized}
+use Rattle.group_largest.specs.Sized.{Sized}
 use Rattle.group.specs.declared.Group.{Group}
 use Rattle.group.specs.Group.{Most, LastOf, IsGroup}
 

@@ -22,14 +22,14 @@ use Rattle.draw.specs.declared.Answer.{Answer}
 use Rattle.draw.specs.declared.Answer.the-variants as DrawAnswer
 use Rattle.draw.specs.Answer.{answerFrom}
 use Rattle.draw.proofs.Intended.{z-numbers, z-weights}
-use Rattle.jobstate.specs.declared.Job.{Job}
-use Rattle.jobstate.specs.declared.Stepped.{Stepped}
-use Rattle.jobstate.specs.declared.Saying.the-variants.{Refused, Panel}
-use Rattle.jobstate.specs.State.{jobOf}
-use Rattle.jobstate.specs.Steps.{each, panelHeld, jobNext, plainStep, Steps}
-use Rattle.jobstate.proofs.FirstPlaces.{Sized, lent}
-use Rattle.jobstate.proofs.Jobs.{panel-held}
-use Rattle.jobstate.proofs.Steps.{refused-step, accepted-step}
+use Rattle.job_state.specs.declared.Job.{Job}
+use Rattle.job_state.specs.declared.Stepped.{Stepped}
+use Rattle.job_state.specs.declared.Saying.the-variants.{Refused, Panel}
+use Rattle.job_state.specs.State.{jobOf}
+use Rattle.job_state.specs.Steps.{each, panelHeld, jobNext, plainStep, Steps}
+use Rattle.job_state.proofs.FirstPlaces.{Sized, lent}
+use Rattle.job_state.proofs.Jobs.{panel-held}
+use Rattle.job_state.proofs.Steps.{refused-step, accepted-step}
 
 -- 6 does not apply to two buffers of a panel's size
 room : (f : Frame) (z start : ℕ) → drawRefusal f z start (each 0) (each 0) ≡ frameRefusal f z start

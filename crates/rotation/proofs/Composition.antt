@@ -24,14 +24,14 @@ use Rattle.selection.proofs.Sums.{count-every, count-le, listed-length}
 use Rattle.group.specs.declared.Group.{Group}
 use Rattle.group.specs.Group.{rulesGroup, IsGroup}
 use Rattle.group.proofs.Accepted.{group-is}
-use Rattle.terms.specs.Gaps.{Gaps}
-use Rattle.terms.proofs.Accepted.{ready}
-use Rattle.members.specs.declared.Places.{Places}
-use Rattle.members.specs.Places.{PlacesOf}
-use Rattle.members.proofs.Held.{hold-most, place-low}
-use Rattle.oldpanel.proofs.Accepted.{OldAccepted, old-accepted}
-use Rattle.leavers.specs.Leaving.{LeaversOf, memberLeaves, firstStep, inPlaceOrder}
-use Rattle.leavers.specs.Search.{Within, Searched}
+use Rattle.draw_terms.specs.Gaps.{Gaps}
+use Rattle.draw_terms.proofs.Accepted.{ready}
+use Rattle.rotation_members.specs.declared.Places.{Places}
+use Rattle.rotation_members.specs.Places.{PlacesOf}
+use Rattle.rotation_members.proofs.Held.{hold-most, place-low}
+use Rattle.rotation_judge.proofs.Accepted.{OldAccepted, old-accepted}
+use Rattle.rotation_step.specs.Leaving.{LeaversOf, memberLeaves, firstStep, inPlaceOrder}
+use Rattle.rotation_step.specs.Search.{Within, Searched}
 use Rattle.rotation.specs.Answer.{leaversOver}
 use Rattle.rotation.proofs.Members.{first-is, leavers-held, leavers-are}
 

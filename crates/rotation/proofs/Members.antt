@@ -11,10 +11,10 @@ use Rattle.rules.specs.TakeAll.{Frame, Group, frame}
 use Rattle.rules.specs.Draw.{sampledBy, keyBelow}
 use Rattle.rules.specs.Rotation.{member, members, required, startAt, leaves, suffices, leastStep, leavers}
 use Rattle.selection.proofs.Least.{least-same}
-use Rattle.members.specs.declared.Places.{Places}
-use Rattle.members.specs.Places.{PlacesOf}
-use Rattle.members.proofs.Held.{count-held, listed-all, holding-both}
-use Rattle.leavers.specs.Leaving.{LeaversOf, memberLeaves, leaving, enoughLeave, firstStep, inPlaceOrder}
+use Rattle.rotation_members.specs.declared.Places.{Places}
+use Rattle.rotation_members.specs.Places.{PlacesOf}
+use Rattle.rotation_members.proofs.Held.{count-held, listed-all, holding-both}
+use Rattle.rotation_step.specs.Leaving.{LeaversOf, memberLeaves, leaving, enoughLeave, firstStep, inPlaceOrder}
 
 module _ (ns ts rs : List ℕ) (g : Group) (panel : List ℕ) (m : Places) (h : PlacesOf (member (frame ns ts []) g panel) (length ts) m) where
   -- the whole frame; members read no random number of it, keys no unit number

@@ -1,11 +1,11 @@
 // Rotation (document 01, "Rotation"): the smallest step of the start at which enough members leave the panel, and who leaves. The
-// take-all group, the units' gaps and the members do not depend on the start and are found once; what a step does is crate `leavers`.
+// take-all group, the units' gaps and the members do not depend on the start and are found once; what a step does is crate `rotation_step`.
 use limits::FRACTION_SCALE;
 use limits::MOST_FRAME;
 use limits::STEPS;
 use refusals::Refusal;
 use refusals::Verdict;
-use terms::gaps;
+use draw_terms::gaps;
 ghost use mathlib.Core.Path.{_≡_};
 ghost use Prim.Native.Nat.{_≤_};
 ghost use Rattle.rules.specs.Limits.{mostPanel, fractionScale};
@@ -48,15 +48,15 @@ fn turn(
     let g = group::find_group(turnovers, z);
     let mut gaps = [0u64; MOST_FRAME];
     gaps::fill(turnovers, g, &mut gaps);
-    let members = members::members(numbers, turnovers, panel, g);
+    let members = rotation_members::members(numbers, turnovers, panel, g);
     let need = required(fraction, members.count);
-    let k = leavers::first_step(turnovers, randoms, &gaps, g, members, old, need);
+    let k = rotation_step::first_step(turnovers, randoms, &gaps, g, members, old, need);
     if STEPS <= k {
         return Answer::Refused(Refusal::NoStep);
     }
-    let start = leavers::start_at(old, k);
-    let left = leavers::find_leavers(turnovers, randoms, &gaps, g, members, start);
-    leavers::write_numbers(numbers, left, leavers);
+    let start = rotation_step::start_at(old, k);
+    let left = rotation_step::find_leavers(turnovers, randoms, &gaps, g, members, start);
+    rotation_step::write_numbers(numbers, left, leavers);
     Answer::Rotated {
         k,
         start,
@@ -81,7 +81,7 @@ pub fn rotate(
         ⌜ Holds (rotationLeavers (frame (now (numbers .entry)) (now (turnovers .entry)) (now (randoms .entry))) z old (now (panel .entry)) fraction (now (leavers .entry)))
         (now (leavers .entry)) (now (leavers .exit)) ⌝ }
 {
-    let verdict = oldpanel::judge(
+    let verdict = rotation_judge::judge(
         numbers,
         turnovers,
         randoms,

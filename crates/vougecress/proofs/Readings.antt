@@ -5,10 +5,10 @@ use Prim.Native.Nat.{ℕ}
 use lib.ListN.{getD, drop}
 use Rattle.rules.specs.Refusals.{Judged}
 use Rattle.rules.specs.Stream.{Command, Front, widthOf, reading, restOf}
-use Rattle.stream.specs.Value.{takenBy, takenOf}
-use Rattle.stream.proofs.Unread.{rest-is}
-use Rattle.boundary.specs.declared.reads.Read.{Read}
-use Rattle.boundary.specs.Reads.{commandRead}
+use Rattle.stream_read.specs.Value.{takenBy, takenOf}
+use Rattle.stream_read.proofs.Unread.{rest-is}
+use Rattle.c_values.specs.declared.reads.Read.{Read}
+use Rattle.c_values.specs.Reads.{commandRead}
 use Rattle.vougecress.specs.Streams.{readFrom}
 
 command-takes : (c : Command) (n : ℕ) → commandRead c n .taken ≡ n

@@ -5,7 +5,7 @@ use lib.ListN.{length}
 use lib.Dec.{ltb}
 use Rattle.rules.specs.Refusals.{Judged, refuse, _then_, judged, written}
 use Rattle.rules.specs.Chain.{Call, relatives, openRefusal, openRecord, figureOf, callRefusal, accepted}
-use Rattle.boundary.specs.Record.{recordPlaces, recordIn, recordList}
+use Rattle.c_values.specs.Record.{recordPlaces, recordIn, recordList}
 
 -- a list that is too short is no record: 19, before all else
 unfoldable pub listRefusal : List ℕ → Call → ℕ

@@ -2,8 +2,8 @@
 use Prim.Native.Nat.{ℕ}
 use Rattle.rules.specs.Refusals.{Judged}
 use Rattle.rules.specs.Stream as rules
-use Rattle.boundary.specs.declared.reads.Read.{Read}
-use Rattle.boundary.specs.Reads.{nothingRead, commandRead}
+use Rattle.c_values.specs.declared.reads.Read.{Read}
+use Rattle.c_values.specs.Reads.{nothingRead, commandRead}
 use Rattle.vougecress.specs.declared.streams.Run.{Run}
 
 -- a command with the bytes that it takes, the end, or a refusal

@@ -1,12 +1,12 @@
 // A quarter and a total, which answer a figure and write nothing.
-use boundary::Figure;
-use boundary::figure_of;
-use boundary::record;
-use total::TotalAnswer;
+use c_values::Figure;
+use c_values::figure_of;
+use c_values::record;
+use sector_total::TotalAnswer;
 ghost use mathlib.Core.Path.{_≡_};
 ghost use Rattle.rules.specs.Chain.{Call};
 ghost use Rattle.rules.specs.Total.{totalAnswer};
-ghost use Rattle.boundary.specs.Figures.{figureFrom};
+ghost use Rattle.c_values.specs.Figures.{figureFrom};
 ghost use Rattle.vougecress.specs.Record.{listAnswer};
 
 // A quarter on a lent record.
@@ -31,7 +31,7 @@ pub extern "C" fn vougecress_quarter(lent: &[u64], relatives: &[u32]) -> Figure
 pub extern "C" fn vougecress_total(shares: &[u32], indices: &[u64]) -> Figure
     ensures { λ r. ⌜ r ≡ figureFrom (totalAnswer (now (shares .entry)) (now (indices .entry))) ⌝ }
 {
-    let answer = total::total(shares, indices);
+    let answer = sector_total::total(shares, indices);
     match answer {
         TotalAnswer::Total(figure) => Figure { refusal: 0, figure },
         TotalAnswer::Refused(why) => Figure {

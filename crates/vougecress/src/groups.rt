@@ -17,15 +17,15 @@ pub extern "C" fn vougecress_take_all(turnovers: &[u64], z: usize, marks: &mut [
     ensures { λ r. ⌜ r ≡ takenFrom (takeAllAnswer (now (turnovers .entry)) z (now (marks .entry))) ⌝ }
     ensures { λ _. ⌜ now (marks .exit) ≡ takeAllMarks (now (turnovers .entry)) z (now (marks .entry)) ⌝ }
 {
-    let answer = takeall::take_all(turnovers, z, marks);
+    let answer = group_entry::take_all(turnovers, z, marks);
     match answer {
-        takeall::Answer::Taken { q, n, rest } => Taken {
+        group_entry::Answer::Taken { q, n, rest } => Taken {
             refusal: 0,
             q: q as u64,
             n: n as u64,
             rest,
         },
-        takeall::Answer::Refused(why) => Taken {
+        group_entry::Answer::Refused(why) => Taken {
             refusal: why.number() as u32,
             q: 0,
             n: 0,

@@ -1,11 +1,11 @@
 // Open and close, which leave a chain record in a lent list.
-use boundary::Figure;
-use boundary::figure_of;
-use boundary::opening_number;
-use boundary::record;
+use c_values::Figure;
+use c_values::figure_of;
+use c_values::opening_number;
+use c_values::record;
 ghost use mathlib.Core.Path.{_≡_};
 ghost use Rattle.rules.specs.Chain.{Call};
-ghost use Rattle.boundary.specs.Figures.{figureFrom};
+ghost use Rattle.c_values.specs.Figures.{figureFrom};
 ghost use Rattle.vougecress.specs.Record.{openedNumber, openedList, listAnswer, listAfter};
 
 // Opens a chain in a lent record.
@@ -23,7 +23,7 @@ pub extern "C" fn vougecress_open(
     if lent.len() < record::RECORD {
         return 6;
     }
-    let opened = opening::open(weights, shares, relatives, start);
+    let opened = chain_open::open(weights, shares, relatives, start);
     let answer = opened.answer;
     let refusal = opening_number(answer);
     let chain = opened.chain;

@@ -6,10 +6,10 @@ use lib.ListN.{length}
 use borrow.Author.Needs.{needs}
 use Rattle.rules.specs.TakeAll.{frame}
 use Rattle.group.proofs.Accepted.{sized, panel-size, own-size}
-use Rattle.terms.specs.Terms.{Ready}
-use Rattle.terms.proofs.Accepted.{ready}
-use Rattle.terms.proofs.ByGaps.{units-of}
-use Rattle.panel.proofs.Short.{reach-at, found-draws}
+use Rattle.draw_terms.specs.Terms.{Ready}
+use Rattle.draw_terms.proofs.Accepted.{ready}
+use Rattle.draw_terms.proofs.ByGaps.{units-of}
+use Rattle.draw_panel.proofs.Short.{reach-at, found-draws}
 use Rattle.draw.proofs.Accepted.{DrawAccepted, draw-accepted}
 use Rattle.draw.proofs.draw_with.Statement.{statement}
 use Rattle.draw.proofs.draw_with.Tie as tie

@@ -4,7 +4,7 @@ use Prim.Native.Nat.{_+_, _≤_}
 use native.Mathlib.Omega.{arith}
 use borrow.Author.Needs.{needs}
 use Rattle.selection.proofs.Places.{ranked-short}
-use Rattle.panel.specs.Panel.{Arrays}
+use Rattle.draw_panel.specs.Panel.{Arrays}
 use Rattle.draw.proofs.write_ordered.Statement.{statement}
 use Rattle.draw.proofs.write_ordered.Tie as tie
 

@@ -1,7 +1,7 @@
 -- The parts that are lent are the job's frame, so that the draw's answer is the one that `rules` asks.
 use native.Mathlib.Omega.{arith}
 use lib.ListN.{length-take}
-use Rattle.jobstate.proofs.FirstPlaces.{Sized}
+use Rattle.job_state.proofs.FirstPlaces.{Sized}
 use Rattle.job.proofs.Panels.{draw-refused, draw-accepted}
 use borrow.Author.Needs.{needs}
 use Rattle.job.proofs.on_draw.Statement.{statement}

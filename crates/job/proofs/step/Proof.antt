@@ -1,10 +1,10 @@
 -- A match on the command: each arm is one function's contract, at the command that was matched.
 use mathlib.Core.Path.{_≡_, sym, subst}
-use Rattle.stream.specs.Value.{commandFrom}
-use Rattle.stream.specs.declared.Command.{Command}
-use Rattle.jobstate.specs.declared.Job.{Job}
-use Rattle.jobstate.specs.declared.Stepped.{Stepped}
-use Rattle.jobstate.specs.Steps.{Steps}
+use Rattle.stream_read.specs.Value.{commandFrom}
+use Rattle.stream_read.specs.declared.Command.{Command}
+use Rattle.job_state.specs.declared.Job.{Job}
+use Rattle.job_state.specs.declared.Stepped.{Stepped}
+use Rattle.job_state.specs.Steps.{Steps}
 use borrow.Author.Needs.{needs}
 use Rattle.job.proofs.step.Statement.{statement}
 use Rattle.job.proofs.step.Tie as tie

@@ -7,11 +7,11 @@ use borrow.Author.Needs.{needs}
 use Rattle.rules.specs.TakeAll.{frame}
 use Rattle.frame.proofs.Accepted.{Accepted}
 use Rattle.group.proofs.Accepted.{sized, own-size}
-use Rattle.terms.specs.Gaps.{Gaps}
-use Rattle.members.proofs.Held.{hold-most}
-use Rattle.leavers.specs.Search.{Searched}
-use Rattle.leavers.proofs.Starts.{start-low}
-use Rattle.oldpanel.proofs.Accepted.{OldAccepted}
+use Rattle.draw_terms.specs.Gaps.{Gaps}
+use Rattle.rotation_members.proofs.Held.{hold-most}
+use Rattle.rotation_step.specs.Search.{Searched}
+use Rattle.rotation_step.proofs.Starts.{start-low}
+use Rattle.rotation_judge.proofs.Accepted.{OldAccepted}
 use Rattle.rotation.proofs.Composition.{frame-ok, old-ok, searched, left-within, left-fewer, turn-refused, turn-given}
 use Rattle.rotation.proofs.turn.Statement.{statement}
 use Rattle.rotation.proofs.turn.Tie as tie

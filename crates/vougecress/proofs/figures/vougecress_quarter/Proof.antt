@@ -4,8 +4,8 @@ use borrow.Author.Tests.{lt-ltb, le-ltb}
 use lib.ListN.{length}
 use Rattle.rules.specs.Refusals.{refuse, _then_}
 use Rattle.rules.specs.Chain.{Chain, Call, callAnswer}
-use Rattle.boundary.specs.Figures.{figureFrom}
-use Rattle.boundary.specs.Record.{recordPlaces}
+use Rattle.c_values.specs.Figures.{figureFrom}
+use Rattle.c_values.specs.Record.{recordPlaces}
 use Rattle.vougecress.specs.Record.{listRefusal, listAnswer}
 use borrow.Author.Needs.{needs}
 use Rattle.vougecress.proofs.figures.vougecress_quarter.Statement.{statement}

@@ -1,6 +1,6 @@
 -- `vougecress_total`: each arm by the definition at its variant.
-use Rattle.total.specs.Answer.{totalFrom}
-use Rattle.boundary.specs.Figures.{figureFrom}
+use Rattle.sector_total.specs.Answer.{totalFrom}
+use Rattle.c_values.specs.Figures.{figureFrom}
 use Rattle.vougecress.proofs.Variants.{told}
 use borrow.Author.Needs.{needs}
 use Rattle.vougecress.proofs.figures.vougecress_total.Statement.{statement}

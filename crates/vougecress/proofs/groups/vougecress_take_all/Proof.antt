@@ -1,5 +1,5 @@
 -- `vougecress_take_all`: each arm by the definition at its variant; the marks are as the inner entry leaves them.
-use Rattle.takeall.specs.Answer.{answerFrom}
+use Rattle.group_entry.specs.Answer.{answerFrom}
 use Rattle.vougecress.specs.Answers.{takenFrom}
 use Rattle.vougecress.proofs.Variants.{told}
 use borrow.Author.Needs.{needs}

@@ -4,9 +4,9 @@ use borrow.Author.Tests.{lt-ltb, le-ltb}
 use lib.ListN.{length}
 use Rattle.rules.specs.Refusals.{refuse, _then_}
 use Rattle.rules.specs.Chain.{Chain, Call, callRefusal, callAnswer, figureOf, accepted, after}
-use Rattle.boundary.specs.Figures.{figureFrom}
-use Rattle.boundary.specs.Record.{recordPlaces, recordIn}
-use Rattle.boundary.proofs.Places.{figure-number, leaves}
+use Rattle.c_values.specs.Figures.{figureFrom}
+use Rattle.c_values.specs.Record.{recordPlaces, recordIn}
+use Rattle.c_values.proofs.Places.{figure-number, leaves}
 use Rattle.vougecress.specs.Record.{listRefusal, listAnswer, listAfter}
 use borrow.Author.Needs.{needs}
 use Rattle.vougecress.proofs.records.vougecress_close.Statement.{statement}

@@ -5,9 +5,9 @@ use lib.ListN.{length}
 use Rattle.rules.specs.Refusals.{refuse, _then_}
 use Rattle.rules.specs.Chain.{openRefusal, openRecord, openAnswer}
 use Rattle.chain.specs.Record.{recordOf}
-use Rattle.opening.specs.Opened.{emptyRecord, openedRecord}
-use Rattle.boundary.specs.Record.{recordPlaces}
-use Rattle.boundary.proofs.Places.{opening-number, leaves}
+use Rattle.chain_open.specs.Opened.{emptyRecord, openedRecord}
+use Rattle.c_values.specs.Record.{recordPlaces}
+use Rattle.c_values.proofs.Places.{opening-number, leaves}
 use Rattle.vougecress.specs.Record.{openedNumber, openedList}
 use borrow.Author.Needs.{needs}
 use Rattle.vougecress.proofs.records.vougecress_open.Statement.{statement}

@@ -3,9 +3,9 @@ use mathlib.Core.Path.{_≡_, sym, ap, ap₂, _∙_}
 use Prim.Native.Nat.{ℕ}
 use Rattle.rules.specs.Refusals.{Judged}
 use Rattle.rules.specs.Stream.{Front}
-use Rattle.stream.specs.declared.Reading.{Reading}
-use Rattle.stream.specs.Value.{readingFrom}
-use Rattle.boundary.specs.Reads.{nothingRead}
+use Rattle.stream_read.specs.declared.Reading.{Reading}
+use Rattle.stream_read.specs.Value.{readingFrom}
+use Rattle.c_values.specs.Reads.{nothingRead}
 use Rattle.vougecress.specs.Streams.{readFrom}
 use Rattle.vougecress.proofs.Readings.{reads}
 use borrow.Author.Needs.{needs}

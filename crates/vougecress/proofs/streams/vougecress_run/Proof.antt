@@ -1,5 +1,5 @@
 -- `vougecress_run`: each arm by the definition at its variant; the buffer is as the inner entry leaves it.
-use Rattle.output.specs.Printed.{answerFrom}
+use Rattle.job_output.specs.Printed.{answerFrom}
 use Rattle.vougecress.specs.Streams.{ranFrom}
 use Rattle.vougecress.proofs.Variants.{told}
 use borrow.Author.Needs.{needs}
