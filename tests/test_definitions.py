@@ -340,11 +340,23 @@ def full_frame_cases():
         yield f"(step {state} (Command.unit 1 1 1)) .says", judged(told, lambda _: "Saying.nothing")
 
 
+def order_suite(rng, times):
+    """Units by falling key, equal keys by lower place; also units that are repeated, and lists of none and one."""
+    for _ in range(times):
+        keys = [rng.choice((0, 1, 5, 5, 10**12)) + rng.randrange(3) for _ in range(rng.randrange(1, 9))]
+        units = [rng.randrange(len(keys)) for _ in range(rng.randrange(9))]
+        for order in (units, rng.sample(range(len(keys)), len(keys))):
+            yield f"ordered (larger {number_list(keys)}) {number_list(order)}", number_list(frame.by_falling_key(keys, order))
+    # document 02's worked leavers, as places
+    yield "ordered (larger (10 ∷ 30 ∷ 20 ∷ 30 ∷ 25 ∷ 15 ∷ [])) (0 ∷ 1 ∷ 2 ∷ 3 ∷ [])", "(1 ∷ 3 ∷ 2 ∷ 0 ∷ [])"
+
+
 SUITES = {
     "limits": lambda rng, times: list(limit_suite()) + list(full_frame_cases()),
     "edges": lambda rng, times: edge_suite(),
     "reading": lambda rng, times: reading_suite(),
     "frame": lambda rng, times: frame_suite(rng, 60 * times),
+    "order": lambda rng, times: order_suite(rng, 30 * times),
     "rotation": lambda rng, times: rotation_suite(rng, 40 * times),
     "open": lambda rng, times: open_suite(rng, 90 * times),
     "call": lambda rng, times: call_suite(rng, 90 * times),

@@ -98,7 +98,7 @@ pub fn bad_size(turnovers: &[u64], z: usize) -> bool
 
 // Refusals 1 to 5, which draw and rotation share: the lowest that applies.
 pub fn judge(numbers: &[u32], turnovers: &[u64], randoms: &[u32], z: usize, start: u32) -> Verdict
-    ensures { λ r. ⌜ verdictOf r ≡ frameRefusal (frame (now (numbers .entry)) (now (turnovers .entry)) (now (randoms .entry))) z start 0 ⌝ }
+    ensures { λ r. ⌜ verdictOf r ≡ frameRefusal (frame (now (numbers .entry)) (now (turnovers .entry)) (now (randoms .entry))) z start ⌝ }
 {
     if bad_lists(numbers, turnovers, randoms) {
         return Verdict::Refused(Refusal::FrameLists);

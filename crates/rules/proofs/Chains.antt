@@ -4,7 +4,7 @@ use mathlib.Core.Bool.{false}
 use mathlib.Core.List.{List}
 use Prim.Native.Nat.{ℕ, _<_, _≤_}
 use native.Mathlib.Nat.{pos-of-ne-zero}
-use lib.Dec.{ltb, eqb}
+use lib.Dec.{ltb}
 use lib.ListN.{length}
 use borrow.Author.Tests.{ltb-false, eqb-true, eqb-false, not-false}
 use Rattle.rules.specs.Limits.{shareScale, mostPanel, mostWeight, mostCloses, highestIndex}

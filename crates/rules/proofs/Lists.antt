@@ -3,18 +3,18 @@
 use mathlib.Core.Path.{_≡_, refl, sym, ap, ap₂, _∙_}
 use mathlib.Core.Bool.{Bool, true, false}
 use mathlib.Core.List.{List, [], _∷_, _++_, append-nil}
-use Prim.Native.Nat.{ℕ, zero, suc, _+_, _*_, _/_, _<_, _≤_, zero-le}
+use Prim.Native.Nat.{ℕ, zero, suc, _+_, _-_, _*_, _/_, _<_, _≤_, zero-le}
 use native.Mathlib.Nat.{le-of-eq, le-of-suc-le-suc, not-suc-le-zero, zero-mul, mul-zero, mul-le-mul-left, div-le-of-le-mul}
 use native.Mathlib.Numerals.{add-one}
 use native.Mathlib.Omega.{arith}
-use lib.Dec.{ltb}
-use lib.ListN.{length, getD, take, drop, set, drop-of-length-le}
+use lib.Dec.{ltb, eqb}
+use lib.ListN.{length, getD, take, drop, set, replicate, drop-of-length-le, length-append, List·getD-append}
 use lib.Seq.{drop-cons, take-all, take-take, take-at, getD-at, getD-take, getD-set-same, getD-set-other}
 use borrow.Author.Count.{below-more}
-use borrow.Author.Tests.{ltb-true, lt-ltb, le-ltb}
+use borrow.Author.Tests.{ltb-true, lt-ltb, le-ltb, eq-eqb, ne-eqb}
 use Rattle.rules.specs.Tests.{_or_, _and_}
-use Rattle.rules.specs.Lists.{sum, products, scaled, anyOf, anyPair, risesFrom, rising}
-use Rattle.rules.proofs.Tests.{and-left, and-right, and-true, or-on, or-off, or-false}
+use Rattle.rules.specs.Lists.{sum, products, scaled, anyOf, anyPair, risesFrom, rising, elem}
+use Rattle.rules.proofs.Tests.{and-left, and-right, and-true, or-on, or-off, or-false, by-order}
 
 -- a turn at i takes the first element of what is left
 pub drop-step : (l : List ℕ) (i : ℕ) → i < length l → drop i l ≡ getD l i 0 ∷ drop (i + 1) l
@@ -177,6 +177,18 @@ rising-below (x ∷ xs) e i zero h k = absurd (omega arith)
 rising-below (x ∷ xs) e zero (suc j) h k = above-all x xs e j (omega arith)
 rising-below (x ∷ xs) e (suc i) (suc j) h k = rising-below xs (rises-rest x xs e) i j (omega arith) (omega arith)
 
+-- the places beyond the first n of a list of one number
+pub drop-replicate : (n m x : ℕ) → drop n (replicate m x) ≡ replicate (m - n) x
+drop-replicate zero m x =
+    let e : m - 0 ≡ m = omega arith in
+    rw e
+drop-replicate (suc n) zero x =
+    let e : 0 - suc n ≡ 0 = omega arith in
+    rw e
+drop-replicate (suc n) (suc m) x =
+    let e : suc m - suc n ≡ m - n = omega arith in
+    rw e (drop-replicate n m x)
+
 -- ---- laying news over a buffer, a place a turn
 -- the buffer after i turns: the first i of the news, the other places as they were
 abbrev pub writtenTo : ℕ → List ℕ → List ℕ → List ℕ
@@ -197,6 +209,7 @@ writtenTo-next (suc i) (x ∷ news) (y ∷ buffer) h k = ap (λ (l : List ℕ). 
 -- all of them: what `written` says where nothing refuses
 pub writtenTo-all : (news buffer : List ℕ) → writtenTo (length news) news buffer ≡ news ++ drop (length news) buffer
 writtenTo-all news buffer = ap (λ (l : List ℕ). l ++ drop (length news) buffer) (take-all (length news) news (le-of-eq refl))
+
 -- ---- sums of products with numbers within a limit
 -- each place of a list is within the limit, where a test that fails says so of a number
 pub any-within : (test : ℕ → Bool) (most : ℕ) → ((y : ℕ) → test y ≡ false → y ≤ most) → (l : List ℕ) → anyOf test l ≡ false → (i : ℕ) → getD l i 0 ≤ most
@@ -254,3 +267,36 @@ filled-more f l i v h e before =
     below-more (λ k. getD (set l i v) k 0 ≡ f k) i
     (λ k m. getD-set-other l i k v 0 (λ q. omega arith) ∙ before k m)
     (getD-set-same l i v 0 h ∙ e)
+
+-- a list and one more: each is below a bound that all of them are below
+pub snoc-under :
+    (xs : List ℕ) (x bound : ℕ) → ((j : ℕ) → j < length xs → getD xs j 0 < bound) → x < bound
+    → (j : ℕ) → j < length (xs ++ (x ∷ [])) → getD (xs ++ (x ∷ [])) j 0 < bound
+snoc-under xs x bound each last j h =
+    by-order j (length xs)
+    (λ k. rw (List·getD-append xs (x ∷ []) 0 j k) (each j k))
+    (λ k.
+    let e : length xs ≡ j = omega (arith, simp length-append at h) in
+    rw (getD-at xs x [] 0 j e) last)
+
+-- ---- a number among those of a list, from place j on
+module _ (x : ℕ) (l : List ℕ) (j : ℕ) where
+  pub elem-here : j < length l → x ≡ getD l j 0 → elem x (drop j l) ≡ true
+  unfolding elem
+  elem-here h e = sym (one-found (eqb x) l j _ refl h (eq-eqb x (getD l j 0) e))
+
+  pub elem-next : j < length l → (x ≡ getD l j 0 → ⊥) → elem x (drop (j + 1) l) ≡ elem x (drop j l)
+  unfolding elem
+  elem-next h e = one-next (eqb x) l j _ refl h (ne-eqb x (getD l j 0) e)
+
+  pub elem-end : length l ≤ j → elem x (drop j l) ≡ false
+  unfolding elem
+  elem-end h = sym (one-none (eqb x) l j _ refl h)
+
+-- a number below all of a list is not in it
+pub elem-low : (x : ℕ) (l : List ℕ) → ((k : ℕ) → k < length l → x < getD l k 0) → elem x l ≡ false
+unfolding elem anyOf
+elem-low x [] h = refl
+elem-low x (y ∷ ys) h =
+    let l : x < y = h 0 (omega arith) in
+    or-off (eqb x y) (anyOf (eqb x) ys) (ne-eqb x y (λ e. omega arith)) ∙ elem-low x ys (λ k g. h (suc k) (omega arith))

@@ -74,12 +74,12 @@ weightRefusal marks vs =
     refuse (anyPair badWeight marks vs) 21
     then refuse (ltb mostWeight (sum vs)) 22
 
--- 21 judges the u as well
+-- at the open 21 judges the u as well
+abbrev pub openWeightRefusal : List ℕ → List ℕ → List ℕ → ℕ
+openWeightRefusal ws gs rs = refuse (anyPair badWeight gs (shared ws gs)) 21 then weightRefusal gs (opening ws gs rs)
+
 unfoldable pub openRefusal : List ℕ → List ℕ → List ℕ → ℕ → ℕ
-openRefusal ws gs rs start =
-    openInputRefusal ws gs rs start
-    then refuse (anyPair badWeight gs (shared ws gs)) 21
-    then weightRefusal gs (opening ws gs rs)
+openRefusal ws gs rs start = openInputRefusal ws gs rs start then openWeightRefusal ws gs rs
 
 -- the record of an accepted open: places beyond the units hold 0
 unfoldable pub openRecord : List ℕ → List ℕ → List ℕ → ℕ → Chain

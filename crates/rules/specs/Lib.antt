@@ -3,6 +3,7 @@ pub mod Tests
 pub mod Refusals
 pub mod Lists
 pub mod Selection
+pub mod Order
 pub mod TakeAll
 pub mod Draw
 pub mod Rotation

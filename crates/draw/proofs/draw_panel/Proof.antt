@@ -1,17 +1,13 @@
 -- The room is that of a small frame where the frame is one, and that of the largest where it is not.
-use Rattle.rules.specs.TakeAll.{frame}
-use Rattle.frame.proofs.Accepted.{accepted}
-use Rattle.draw.proofs.Refusals.{frame-accepted}
 use borrow.Author.Needs.{needs}
+use Rattle.draw.proofs.Accepted.{draw-accepted}
 use Rattle.draw.proofs.draw_panel.Statement.{statement}
 use Rattle.draw.proofs.draw_panel.Tie as tie
 
 draw-with-requires-2 : tie.Need-draw-with-requires-2
 draw-with-requires-2 c κs =
     let s = c .before .before .before .before .before .before .before .before .before in
-    let a = s .args in
-    let f = frame (a .numbers .now) (a .turnovers .now) (a .randoms .now) in
-    (s .pre, accepted f (a .z) (a .start) (frame-accepted f (a .z) (a .start) (a .panel .now) (a .weights .now) (s .pre)) .units .few)
+    (s .pre, draw-accepted _ _ _ _ _ (s .pre) .frameOk .units .few)
 
 pub draw-panel-spec : {M : Type 1} → statement M
 draw-panel-spec =

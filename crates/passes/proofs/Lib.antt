@@ -1,2 +1,0 @@
-pub mod Relatives
-pub mod Refusals
