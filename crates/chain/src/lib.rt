@@ -1,10 +1,10 @@
 // Document 01, "Chain record": quarter and close, by value on the record. The crate `chain_figure` has the steps of both; opening a record is
 // the crate `chain_open`.
 use chain_figure::Reckoned;
+use chain_relative::Relative;
 use limits::MOST_PANEL;
 use refusals::Refusal;
 use refusals::Verdict;
-use chain_relative::Relative;
 ghost use mathlib.Core.Path.{_≡_};
 ghost use Rattle.rules.specs.Chain.{Call, callAnswer, after};
 ghost use Rattle.chain.specs.Record.{recordOf, answerFrom, refusedWith, figuredWith};

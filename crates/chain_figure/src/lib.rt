@@ -1,5 +1,6 @@
 // Document 01, "Chain record": what quarter and close share, the refusals that come first and last, and the figure. The record's places are lent,
 // so that no call copies them.
+use chain_relative::Relative;
 use limits::LINK_SCALE;
 use limits::MOST_CLOSES;
 use limits::MOST_WEIGHT;
@@ -7,7 +8,6 @@ use limits::bad_index;
 use limits::bad_units;
 use refusals::Refusal;
 use refusals::Verdict;
-use chain_relative::Relative;
 ghost use mathlib.Core.Path.{_≡_};
 ghost use Prim.Native.Nat.{_*_, _/_, _<_, _≤_};
 ghost use lib.ListN.{length, take};

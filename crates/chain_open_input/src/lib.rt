@@ -1,11 +1,11 @@
 // Document 01, "Chain record", open: what is refused of the input, 9 to 13.
+use chain_weight::bad_relative;
 use limits::MOST_WEIGHT;
 use limits::SHARE_SCALE;
 use limits::bad_index;
 use limits::bad_units;
 use refusals::Refusal;
 use refusals::Verdict;
-use chain_weight::bad_relative;
 ghost use mathlib.Core.Path.{_≡_};
 ghost use Prim.Native.Nat.{_≤_};
 ghost use lib.ListN.{length};

@@ -1,12 +1,12 @@
 // Document 01, "Chain record", open: the weights u and from them the opening weights v, and what is refused of them, 21 and 22.
-use limits::MOST_WEIGHT;
-use limits::SHARE_SCALE;
+use chain_relative::Relative;
 use chain_sums::capped_sum;
 use chain_sums::scale_into;
+use chain_weight::bad_weight;
+use limits::MOST_WEIGHT;
+use limits::SHARE_SCALE;
 use refusals::Refusal;
 use refusals::Verdict;
-use chain_relative::Relative;
-use chain_weight::bad_weight;
 ghost use mathlib.Core.Path.{_≡_};
 ghost use lib.ListN.{length};
 ghost use Rattle.refusals.specs.Number.{verdictOf};

@@ -1,10 +1,10 @@
 // Document 01, "Chain record" and its refusals: one pass each over the weights and relatives of all units. Open, quarter and close
 // are made of these and of the tests of one unit (crate `chain_weight`).
+use chain_weight::bad_relative;
+use chain_weight::bad_weight;
 use limits::MOST_WEIGHT;
 use refusals::Refusal;
 use refusals::Verdict;
-use chain_weight::bad_relative;
-use chain_weight::bad_weight;
 ghost use mathlib.Core.Path.{_≡_};
 ghost use Prim.Native.Nat.{_+_, _<_, _≤_, _^_, min};
 ghost use lib.ListN.{length};

@@ -1,8 +1,8 @@
 // Document 01, "Chain record" and its refusals: tests of one unit, of which the passes over all units are made (crate `chain_sums`).
 // A mark is 0 for an absent unit: its share at the open, its weight later.
-use limits::LEAST_WEIGHT;
 use chain_relative::Checked;
 use chain_relative::Relative;
+use limits::LEAST_WEIGHT;
 ghost use mathlib.Core.Path.{_≡_};
 ghost use Rattle.rules.specs.Chain.{badRelative, badWeight};
 

@@ -1,10 +1,10 @@
 // The program `chainrun` (document 01, "Job stream"): reads a stream from standard input and prints the lines of each command as it is done,
 // until the end or the first refusal. What all turns print is the crate `job_turn`, proofs/Whole.antt.
 // A program has no exit status: a read or a write that fails is told on standard error, with the system's reason, and ends the run.
+use job_text::TEXT_ROOM;
 use libc::STDERR_FILENO;
 use libc::STDIN_FILENO;
 use libc::STDOUT_FILENO;
-use job_text::TEXT_ROOM;
 ghost use mathlib.Core.Path.{_≡_};
 ghost use Prim.Native.Nat.{suc, _*_};
 ghost use lib.ListN.{length};

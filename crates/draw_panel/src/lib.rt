@@ -3,8 +3,8 @@
 // module `told`.
 pub mod told;
 
-use group::Group;
 use draw_list::Found;
+use group::Group;
 ghost use mathlib.Core.Path.{_≡_};
 ghost use Prim.Native.Nat.{_+_, _<_, _≤_};
 ghost use lib.ListN.{length};

@@ -1,9 +1,9 @@
 // Who is sampled under a start (document 01, "Draw"), for a caller that asks it of a few units: by the bound of a short list where that is sure, and
 // else by the last sampled unit.
 use draw_bound::Bound;
-use group::Group;
 use draw_terms::Key;
 use draw_threshold::Threshold;
+use group::Group;
 ghost use mathlib.Core.Path.{_≡_};
 ghost use Prim.Native.Nat.{_<_};
 ghost use lib.ListN.{length};

@@ -1,7 +1,7 @@
 // Who is sampled, told by the last sampled unit and its key (document 01, "Draw"): the keys are put in order once for a start, and then one
 // comparison a unit tells.
-use group::Group;
 use draw_terms::Key;
+use group::Group;
 ghost use mathlib.Core.Path.{_≡_};
 ghost use Prim.Native.Nat.{_<_};
 ghost use lib.ListN.{length};

@@ -1,5 +1,6 @@
 // Document 01, "Job stream": the commands on the chain, open, quarter and close; refusal 19.
 use chain::Answer;
+use chain_open::Opening;
 use job_state::Job;
 use job_state::Saying;
 use job_state::Stepped;
@@ -7,7 +8,6 @@ use job_state::said;
 use job_state::with_chain;
 use job_state::within;
 use limits::MOST_PANEL;
-use chain_open::Opening;
 use refusals::Refusal;
 ghost use Rattle.rules.specs.Stream.{Command};
 ghost use Rattle.job_state.specs.Steps.{Steps};

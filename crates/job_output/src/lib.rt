@@ -1,7 +1,7 @@
 // Document 01, "Job stream": all that a stream prints, laid into a lent buffer. The first of two passes over the turns (`job_turn`) only counts, since a
 // buffer that is too short is to stay as it was; the count is an answer of its own.
-use refusals::Refusal;
 use job_text::TEXT_ROOM;
+use refusals::Refusal;
 ghost use mathlib.Core.Path.{_≡_};
 ghost use Prim.Native.Nat.{_≤_};
 ghost use lib.ListN.{length, take};

@@ -1,10 +1,10 @@
 // Document 01, "Job stream": one turn of a stream: the command at the front of the unread part is read and done, and its lines are laid into a
 // lent buffer. A program loops over turns (specs/Run.antt); what all turns print is proofs/Whole.antt.
 use job_state::Job;
-use stream_read::Reading;
 use job_text::TEXT_ROOM;
 use job_text::continues;
 use job_text::lay;
+use stream_read::Reading;
 ghost use mathlib.Core.Path.{_≡_};
 ghost use Prim.Native.Nat.{_-_};
 ghost use Rattle.job_turn.specs.Turn.{Renders};

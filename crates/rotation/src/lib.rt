@@ -1,11 +1,11 @@
 // Rotation (document 01, "Rotation"): the smallest step of the start at which enough members leave the panel, and who leaves. The
 // take-all group, the units' gaps and the members do not depend on the start and are found once; what a step does is crate `rotation_step`.
+use draw_terms::gaps;
 use limits::FRACTION_SCALE;
 use limits::MOST_FRAME;
 use limits::STEPS;
 use refusals::Refusal;
 use refusals::Verdict;
-use draw_terms::gaps;
 ghost use mathlib.Core.Path.{_≡_};
 ghost use Prim.Native.Nat.{_≤_};
 ghost use Rattle.rules.specs.Limits.{mostPanel, fractionScale};

@@ -1,12 +1,12 @@
 // One step of a rotation (document 01, "Rotation"): the start that it leads to, who of the members leaves there, the first step at which enough
 // leave, and the leavers' numbers written out. A step looks for the last sampled unit under its start and holds each member against it.
+use draw_panel::told;
 use group::Group;
 use limits::MOST_PANEL;
 use limits::RANDOM_RANGE;
 use limits::STEP_LENGTH;
 use limits::STEPS;
 use rotation_members::Places;
-use draw_panel::told;
 ghost use mathlib.Core.Path.{_≡_};
 ghost use Prim.Native.Nat.{_<_, _≤_};
 ghost use lib.ListN.{length};

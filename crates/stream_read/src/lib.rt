@@ -6,10 +6,10 @@ ghost use Prim.Native.Nat.{_≤_};
 ghost use lib.ListN.{length};
 ghost use Rattle.rules.specs.Stream.{widthOf, commandOf, reading};
 ghost use Rattle.stream_read.specs.Value.{commandFrom, readingFrom, takenOf};
-use stream_bytes::two_words;
-use stream_bytes::word;
 use limits::MOST_STREAM;
 use refusals::Refusal;
+use stream_bytes::two_words;
+use stream_bytes::word;
 
 pub enum Command {
     Unit {

@@ -7,6 +7,7 @@ pub mod groups;
 pub mod records;
 pub mod rotates;
 pub mod streams;
+
 ghost use mathlib.Core.Path.{_≡_};
 ghost use Rattle.vougecress.specs.Version.{libraryVersion};
 

@@ -62,5 +62,5 @@ read-front-spec 𝓤 H 𝓜 𝓖 𝓡 =
     let 𝓣 = tables 𝓤 H 𝓜 𝓡 code.env in
     entered 𝓤 H (Ensures W FrontR IsFront) (𝓣 .C) (𝓣 .Λ) name code.function (code.unfolded 𝓤 H 𝓜 𝓡)
     (meets W FrontR IsFront (tablesOf 𝓤 H 𝓜 𝓣) code.function (walk W (tablesOf 𝓤 H 𝓜 𝓣)
-    (cited 𝓤 H (Ensures W ReadingR IsReading) 𝓜 𝓡 code.env read.name read.routine code.calls-stream·read (read-thm.met 𝓤 H 𝓜 𝓖 𝓡))
-    (cited 𝓤 H (Ensures W RestR IsRest) 𝓜 𝓡 code.env rest.name rest.routine code.calls-front·rest (rest-thm.met 𝓤 H 𝓜 𝓖 𝓡))))
+    (cited 𝓤 H (Ensures W ReadingR IsReading) 𝓜 𝓡 code.env read.name read.routine code.calls-stream-read·read (read-thm.met 𝓤 H 𝓜 𝓖 𝓡))
+    (cited 𝓤 H (Ensures W RestR IsRest) 𝓜 𝓡 code.env rest.name rest.routine code.calls-stream-front·rest (rest-thm.met 𝓤 H 𝓜 𝓖 𝓡))))

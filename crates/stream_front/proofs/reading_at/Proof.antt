@@ -53,5 +53,5 @@ reading-at-spec 𝓤 H 𝓜 𝓖 𝓡 =
     let 𝓣 = tables 𝓤 H 𝓜 𝓡 code.env in
     entered 𝓤 H (Ensures W ReadingR IsReading) (𝓣 .C) (𝓣 .Λ) name code.function (code.unfolded 𝓤 H 𝓜 𝓡)
     (meets W ReadingR IsReading (tablesOf 𝓤 H 𝓜 𝓣) code.function (walk W (tablesOf 𝓤 H 𝓜 𝓣)
-    (cited 𝓤 H (Ensures W FrontR IsFront) 𝓜 𝓡 code.env read-front.name read-front.routine code.calls-front·read-front
+    (cited 𝓤 H (Ensures W FrontR IsFront) 𝓜 𝓡 code.env read-front.name read-front.routine code.calls-stream-front·read-front
     (read-front-thm.met 𝓤 H 𝓜 𝓖 𝓡))))

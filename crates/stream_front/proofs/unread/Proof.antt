@@ -50,5 +50,5 @@ unread-spec 𝓤 H 𝓜 𝓖 𝓡 =
     let 𝓣 = tables 𝓤 H 𝓜 𝓡 code.env in
     entered 𝓤 H (Ensures W RestR IsRest) (𝓣 .C) (𝓣 .Λ) name code.function (code.unfolded 𝓤 H 𝓜 𝓡)
     (meets W RestR IsRest (tablesOf 𝓤 H 𝓜 𝓣) code.function (walk W (tablesOf 𝓤 H 𝓜 𝓣)
-    (cited 𝓤 H (Ensures W FrontR IsFront) 𝓜 𝓡 code.env read-front.name read-front.routine code.calls-front·read-front
+    (cited 𝓤 H (Ensures W FrontR IsFront) 𝓜 𝓡 code.env read-front.name read-front.routine code.calls-stream-front·read-front
     (read-front-thm.met 𝓤 H 𝓜 𝓖 𝓡))))
