@@ -12,7 +12,13 @@ pub struct Loaded {
 
 // The generated frame in the first `count` places of three lent lists.
 #[no_mangle]
-pub extern "C" fn vougecress_load(start: u64, count: usize, numbers: &mut [u32], turnovers: &mut [u64], randoms: &mut [u32]) -> Loaded
+pub extern "C" fn vougecress_load(
+    start: u64,
+    count: usize,
+    numbers: &mut [u32],
+    turnovers: &mut [u64],
+    randoms: &mut [u32],
+) -> Loaded
     ensures { λ r. ⌜ r ≡ loadedFrom (loadAnswer start count (now (numbers .entry)) (now (turnovers .entry)) (now (randoms .entry))) ⌝ }
     ensures { λ _. ⌜ now (numbers .exit) ≡ loadNumbers start count (now (numbers .entry)) (now (turnovers .entry)) (now (randoms .entry)) ⌝ }
     ensures { λ _. ⌜ now (turnovers .exit) ≡ loadTurnovers start count (now (numbers .entry)) (now (turnovers .entry)) (now (randoms .entry)) ⌝ }

@@ -49,7 +49,7 @@ randoms-low zero s = refl
 randoms-low (suc count) s = or-off _ _ (lt-leb _ _ (mod-lt (stepped (stepped s)) (omega arith))) ∙ randoms-low count (stepped (stepped s))
 
 module _ (start count z first : ℕ) (numbers weights : List ℕ) (some : 0 < z) (within : z ≤ count) (panel : z ≤ mostPanel) (frame : count ≤ mostFrame) (low : first < randomRange)
-  (room : z ≤ length numbers) (place : z ≤ length weights) where
+    (room : z ≤ length numbers) (place : z ≤ length weights) where
   sum-low : sum (madeTurnovers count start) ≤ mostTurnover
   sum-low = omega (arith, sum-most count start)
 
@@ -57,8 +57,20 @@ module _ (start count z first : ℕ) (numbers weights : List ℕ) (some : 0 < z)
   unfolding drawRefusal frameRefusal refuse _then_ badLists badCount badTurnovers badSize badRandom _or_
   load-is-accepted =
       simp (
-        length-numbers count 1, length-turnovers count start, length-randoms count start,
-        eq-eqb count count refl, ne-eqb count 0 (λ e. omega arith), le-ltb mostFrame count frame,
-        rising-numbers count, none-zero count start, le-ltb mostTurnover _ sum-low, randoms-low count start, lt-leb _ _ low,
-        ne-eqb z 0 (λ e. omega arith), le-ltb mostPanel z panel, le-ltb count z within, le-ltb (length numbers) z room, le-ltb (length weights) z place,
+        length-numbers count 1,
+        length-turnovers count start,
+        length-randoms count start,
+        eq-eqb count count refl,
+        ne-eqb count 0 (λ e. omega arith),
+        le-ltb mostFrame count frame,
+        rising-numbers count,
+        none-zero count start,
+        le-ltb mostTurnover _ sum-low,
+        randoms-low count start,
+        lt-leb _ _ low,
+        ne-eqb z 0 (λ e. omega arith),
+        le-ltb mostPanel z panel,
+        le-ltb count z within,
+        le-ltb (length numbers) z room,
+        le-ltb (length weights) z place,
       )

@@ -114,8 +114,7 @@ returns : tie.Need-returns Inv-loop μ-loop
 returns c =
     let at = c .before .loop in
     let a = c .before .before .before .before .before .args in
-    let done = c .loop-test .left in
-    (
+    let done = c .loop-test .left in (
       end _ _ _ _ _ (at .inv .numbers) (length-numbers (a .count) 1) (at .inv .most) done,
       (
         end _ _ _ _ _ (at .inv .turnovers) (length-turnovers (a .count) (a .start)) (at .inv .most) done,
