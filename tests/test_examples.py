@@ -2,12 +2,13 @@
 
 import re
 import subprocess
+import sys
 import tempfile
 from pathlib import Path
 
 import commands
 import library
-from independent import chain, frame
+from independent import chain, frame, load
 
 TOP = Path(__file__).resolve().parent.parent
 NUMBERS, TURNOVERS = [11, 12, 13, 14, 15], [70_000_000, 10_000_000, 8_000_000, 7_000_000, 5_000_000]
