@@ -1,8 +1,5 @@
-#!/usr/bin/env bash
-# Proves and builds the library for C and leaves libvougecress.a, libvougecress.so and vougecress.h in build/.
-set -euo pipefail
-cd "$(dirname "$0")"
-rt staticlib vougecress
-mkdir -p build
-cp target/staticlib/libvougecress.a include/vougecress.h build/
-gcc -shared -o build/libvougecress.so -Wl,--whole-archive build/libvougecress.a -Wl,--no-whole-archive
+#!/bin/sh
+# Proves and builds the library for C into build/, if the sources have changed: ./build.sh. ./build.sh --help says more.
+top=$(dirname -- "$(readlink -f -- "$0")")
+command -v python3 > /dev/null || { echo "build.sh: needs Python 3.8 or newer; there is no python3 in PATH" >&2; exit 4; }
+exec python3 -B "$top/tools/start.py" build "$@" < /dev/null

@@ -1,9 +1,8 @@
-#!/usr/bin/env bash
-# The main job: builds chainrun and runs the reference stream (examples/reference.txt), or the stream that a file of readable
-# lines describes: ./run.sh [FILE]
-set -euo pipefail
-cd "$(dirname "$0")"
-log=$(mktemp)
-trap 'rm -f "$log"' EXIT
-rt check chainrun > "$log" 2>&1 || { cat "$log" >&2; exit 1; }
-python3 examples/make_stream.py "${1:-examples/reference.txt}" | target/bin/chainrun
+#!/bin/sh
+# Runs a job of readable lines, the reference job without a name: ./run.sh [FILE]. ./run.sh --help says more.
+# What it does is in tools/; here only Python and the repository are found, so that it works through a link and from any folder.
+top=$(dirname -- "$(readlink -f -- "$0")")
+command -v python3 > /dev/null || { echo "run.sh: needs Python 3.8 or newer; there is no python3 in PATH" >&2; exit 4; }
+# Python does not start where standard input is a directory.
+[ ! -d /dev/stdin ] || { echo "run.sh: cannot read standard input: Is a directory" >&2; exit 3; }
+exec python3 -B "$top/tools/start.py" run "$@"

@@ -1,15 +1,24 @@
-"""The worked example of example.c from Python, by ctypes.
+"""The worked year of example.c from Python, by ctypes.
 
     ./build.sh
     python3 examples/example.py
 """
 
 import ctypes
-from ctypes import Structure, c_size_t, c_uint32, c_uint64
+from ctypes import Structure, c_size_t, c_uint8, c_uint32, c_uint64
 from pathlib import Path
 
-LIBRARY = ctypes.CDLL(str(Path(__file__).resolve().parent.parent / "build" / "libvougecress.so"))
-RECORD, INDEX, CLOSES = 103, 1, 2
+try:
+    LIBRARY = ctypes.CDLL(str(Path(__file__).resolve().parent.parent / "build" / "libvougecress.so"))
+except OSError as error:
+    raise SystemExit(f"example.py: {error}; ./build.sh builds the library")
+RECORD = 103
+WHOLE_SHARE = 10_000
+INDEX_OF_100 = 10**9
+
+
+class Taken(Structure):
+    _fields_ = [("refusal", c_uint32), ("q", c_uint64), ("n", c_uint64), ("rest", c_uint64)]
 
 
 class Drawn(Structure):
@@ -24,45 +33,80 @@ class Figure(Structure):
     _fields_ = [("refusal", c_uint32), ("figure", c_uint64)]
 
 
+LIBRARY.vougecress_take_all.restype = Taken
 LIBRARY.vougecress_draw.restype = Drawn
 LIBRARY.vougecress_rotate.restype = Rotated
 for name in ("vougecress_quarter", "vougecress_close", "vougecress_total"):
     getattr(LIBRARY, name).restype = Figure
 
 
-def u32(*values):
+def lent(kind, values):
     """A lent list: a pointer and a count."""
-    return (c_uint32 * len(values))(*values), c_size_t(len(values))
+    return (kind * len(values))(*values), c_size_t(len(values))
 
 
-def u64(*values):
-    return (c_uint64 * len(values))(*values), c_size_t(len(values))
+def accepted(call, answer):
+    """An answer that is no refusal, or the end."""
+    number = answer if isinstance(answer, int) else answer.refusal
+    if number:
+        raise SystemExit(f"{call}: refusal {number} (docs/REFUSALS.md)")
+    return answer
 
 
-frame = (
-    *u32(11, 12, 13, 14, 15),
-    *u64(70_000_000, 10_000_000, 8_000_000, 7_000_000, 5_000_000),
-    *u32(300_000, 500_000, 200_000, 900_000, 100_000),
-)
-panel, weights, leavers = u32(0, 0, 0), u64(0, 0, 0), u32(0, 0, 0)
-drawn = LIBRARY.vougecress_draw(*frame, c_size_t(3), c_uint32(0), *panel, *weights)
-if drawn.refusal:
-    raise SystemExit(f"draw refused: {drawn.refusal}")
-print(f"panel of 3: n = {drawn.n}, X = {drawn.rest}")
-for unit, weight in zip(panel[0], weights[0]):
-    print(f"  unit {unit} weight {weight}")
+NUMBERS = [11, 12, 13, 14, 15]
+TURNOVERS = [70_000_000, 10_000_000, 8_000_000, 7_000_000, 5_000_000]
+RANDOMS = [300_000, 500_000, 200_000, 900_000, 100_000]
+FRAME = (*lent(c_uint32, NUMBERS), *lent(c_uint64, TURNOVERS), *lent(c_uint32, RANDOMS))
+SIZE = 3
 
-turn = LIBRARY.vougecress_rotate(*frame, c_size_t(3), c_uint32(0), *panel, c_uint32(500), *leavers)
-print(f"rotation: step {turn.k}, new start {turn.start}, {turn.count} leaver(s), first {leavers[0][0]}")
 
-record = u64(*[0] * RECORD)
-whole = u32(10_000, 10_000, 10_000)
-print("open: refusal", LIBRARY.vougecress_open(*weights, *whole, *whole, c_uint64(10**9), *record))
-quarters = [(10_100, 10_000, 10_000), (10_200, 9_900, 10_500), (10_400, 9_800, 11_000)]
-for number, relatives in enumerate(quarters, 1):
-    print(f"quarter {number}: {LIBRARY.vougecress_quarter(*record, *u32(*relatives)).figure}")
-print(f"close of the year: {LIBRARY.vougecress_close(*record, *u32(10_500, 9_800, 12_000)).figure}")
-print(f"index now {record[0][INDEX]} after {record[0][CLOSES]} close")
-print(f"a relative of 2,499: refusal {LIBRARY.vougecress_quarter(*record, *u32(2_499, 10_000, 10_000)).refusal}")
-total = LIBRARY.vougecress_total(*u32(600_000, 400_000), *u64(record[0][INDEX], 10**9))
-print(f"total: {total.figure}")
+def draw(start):
+    """The panel and its weights, printed. A panel unit is take-all if its place in the frame is marked."""
+    marks, panel, weights = lent(c_uint8, [0] * len(NUMBERS)), lent(c_uint32, [0] * SIZE), lent(c_uint64, [0] * SIZE)
+    accepted("take-all", LIBRARY.vougecress_take_all(*lent(c_uint64, TURNOVERS), c_size_t(SIZE), *marks))
+    drawn = accepted("draw", LIBRARY.vougecress_draw(*FRAME, c_size_t(SIZE), c_uint32(start), *panel, *weights))
+    print(f"draw from start {start}: n = {drawn.n}, X = {drawn.rest}")
+    for unit, weight in zip(panel[0], weights[0]):
+        print(f"  unit {unit} weight {weight} {'take-all' if marks[0][NUMBERS.index(unit)] else 'sampled'}")
+    return panel, weights
+
+
+def open_chain(weights, updating, start):
+    """A record on a panel's weights; every unit belongs to the sector wholly."""
+    record = lent(c_uint64, [0] * RECORD)
+    lists = (*weights, *lent(c_uint32, [WHOLE_SHARE] * SIZE), *lent(c_uint32, updating))
+    accepted("open", LIBRARY.vougecress_open(*lists, c_uint64(start), *record))
+    print(f"opened at {start}")
+    return record
+
+
+def quarter(name, record, relatives):
+    answer = accepted(name, LIBRARY.vougecress_quarter(*record, *lent(c_uint32, relatives)))
+    print(f"{name}: {answer.figure}")
+
+
+panel, weights = draw(0)
+record = open_chain(weights, [10_000, 10_000, 10_000], INDEX_OF_100)
+
+# Measured against the opening: 2 percent, and then 2 percent more, are 10,200 and 10,404.
+quarter("first quarter", record, [10_200, 10_200, 10_200])
+quarter("second quarter", record, [10_404, 10_404, 10_404])
+quarter("third quarter", record, [10_500, 9_900, 11_500])
+close = accepted("close", LIBRARY.vougecress_close(*record, *lent(c_uint32, [10_500, 9_800, 12_000])))
+print(f"close of the year: {close.figure}")
+
+leavers = lent(c_uint32, [0] * SIZE)
+turn = accepted("rotation", LIBRARY.vougecress_rotate(*FRAME, c_size_t(SIZE), c_uint32(0), *panel, c_uint32(500), *leavers))
+left = " ".join(str(unit) for unit in leavers[0][: turn.count])
+print(f"rotation of half: step {turn.k}, new start {turn.start}, leavers {left}")
+panel, weights = draw(turn.start)
+record = open_chain(weights, [10_500, 10_300, 9_800], close.figure)
+quarter("first quarter", record, [10_000, 10_100, 10_200])
+
+# A refused call answers its number, and the record is as it was.
+refusal = LIBRARY.vougecress_quarter(*record, *lent(c_uint32, [2_499, 10_000, 10_000])).refusal
+print(f"a relative of 2,499: refusal {refusal}{' (relatives)' if refusal == 13 else ''}")
+
+sectors = (*lent(c_uint32, [600_000, 400_000]), *lent(c_uint64, [close.figure, INDEX_OF_100]))
+total = accepted("total", LIBRARY.vougecress_total(*sectors))
+print(f"total of the year over two sectors: {total.figure}")

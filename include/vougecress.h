@@ -3,11 +3,13 @@
  *
  * Lists are lent for the length of a call: a pointer and a count of elements. A call reads its input lists and writes only
  * what is said below. Every function takes any list and any number. It answers a result, with `refusal` 0, or one refusal
- * number of document 01, with every other field of the answer 0 (but the length that a run answers); after a refusal every
- * lent list is as it was.
+ * number of document 01, with every other field of the answer 0; after a refusal every lent list is as it was.
  * A null pointer is allowed where the count is 0. Lists that are lent to be written may not overlap other lists of the call.
  * No call asks for memory of its own but on the stack, of which it takes up to 256 KB. Nothing is kept between calls, so that
  * threads may call at once, each with its own lists.
+ *
+ * Compile and link: gcc program.c -Ibuild build/libvougecress.a, or, once it is installed (PREFIX=... ./install.sh),
+ * gcc program.c $(pkg-config --cflags --libs vougecress).
  */
 #ifndef VOUGECRESS_H
 #define VOUGECRESS_H
@@ -18,6 +20,68 @@
 #ifdef __cplusplus
 extern "C" {
 #endif
+
+/* ---- Version
+ *
+ * The major number goes up where an entry's arguments or results change (the shared library is then another one, by its
+ * SONAME), the minor one where an entry is added, the patch otherwise.
+ */
+#define VOUGECRESS_VERSION_MAJOR 1
+#define VOUGECRESS_VERSION_MINOR 0
+#define VOUGECRESS_VERSION_PATCH 0
+#define VOUGECRESS_VERSION (VOUGECRESS_VERSION_MAJOR * 10000 + VOUGECRESS_VERSION_MINOR * 100 + VOUGECRESS_VERSION_PATCH)
+
+/* The version of the library that was linked; VOUGECRESS_VERSION is that of the header that was compiled. */
+uint32_t vougecress_version(void);
+
+/* ---- Refusals (docs/REFUSALS.md says what to do about each). 0 is none. */
+enum vougecress_refusal {
+    VOUGECRESS_REFUSED_FRAME_LISTS = 1,      /* frame lists unequal, empty or over 16,384 */
+    VOUGECRESS_REFUSED_UNIT_NUMBERS = 2,     /* unit numbers not rising */
+    VOUGECRESS_REFUSED_TURNOVERS = 3,        /* a turnover 0, or total over 10^12 */
+    VOUGECRESS_REFUSED_RANDOM_NUMBERS = 4,   /* random number or start over 999,999 */
+    VOUGECRESS_REFUSED_PANEL_SIZE = 5,       /* z is 0, over 100 or over the units */
+    VOUGECRESS_REFUSED_RESULT_BUFFER = 6,    /* a result buffer shorter than z, or for leavers than the old panel */
+    VOUGECRESS_REFUSED_OLD_PANEL = 7,        /* f over 1,000, or old panel over 100 or not rising */
+    VOUGECRESS_REFUSED_NO_STEP = 8,          /* no step rotates enough */
+    VOUGECRESS_REFUSED_UNIT_LISTS = 9,       /* unit lists empty, over 100, or unequal to each other or to the record */
+    VOUGECRESS_REFUSED_BASE_WEIGHTS = 10,    /* a W of 0, or their sum over 10^14 */
+    VOUGECRESS_REFUSED_SHARES = 11,          /* a share over 10,000, or all 0 */
+    VOUGECRESS_REFUSED_START_INDEX = 12,     /* start index outside 10^8 to 10^10 */
+    VOUGECRESS_REFUSED_RELATIVES = 13,       /* a relative out of range, 0 for a present unit, or not 0 for an absent one */
+    VOUGECRESS_REFUSED_SECTORS = 14,         /* sector lists unequal, empty, over 64, not adding to 1,000,000, or an index outside 12's range */
+    VOUGECRESS_REFUSED_STREAM_LENGTH = 15,   /* stream over 32,768 bytes */
+    VOUGECRESS_REFUSED_UNKNOWN_COMMAND = 16, /* command not 1 to 7 */
+    VOUGECRESS_REFUSED_CUT_SHORT = 17,       /* command cut short */
+    VOUGECRESS_REFUSED_PLACE = 18,           /* place not below panel size */
+    VOUGECRESS_REFUSED_STATE = 19,           /* open without a panel, quarter or close without a chain; a record that breaks a limit */
+    VOUGECRESS_REFUSED_FRAME_FULL = 20,      /* a unit when 1,024 are held */
+    VOUGECRESS_REFUSED_LOW_WEIGHT = 21,      /* a present u or v below 1,000,000, at open or after close */
+    VOUGECRESS_REFUSED_WEIGHT_SUM = 22,      /* sum of v over 10^14, at open or after close */
+    VOUGECRESS_REFUSED_FIGURE_RANGE = 23,    /* F outside 10^8 to 10^10 */
+    VOUGECRESS_REFUSED_CLOSES_SPENT = 24     /* forty closes accepted (quarter too) */
+};
+
+/* ---- Limits of document 01. A number beyond one is refused, never cut. */
+#define VOUGECRESS_MOST_FRAME 16384                          /* units of a frame */
+#define VOUGECRESS_MOST_TURNOVER UINT64_C(1000000000000)     /* euros of a frame in all; each turnover is at least 1 */
+#define VOUGECRESS_RANDOM_RANGE 1000000                      /* random numbers and starts are below this */
+#define VOUGECRESS_MOST_PANEL 100                            /* units of a panel, and of a record */
+#define VOUGECRESS_FRACTION_SCALE 1000                       /* the fraction of a rotation is in thousandths, 0 to this */
+#define VOUGECRESS_SHARE_SCALE 10000                         /* a whole share; shares are 0 to this */
+#define VOUGECRESS_RELATIVE_SCALE 10000                      /* a relative of no change */
+#define VOUGECRESS_LOWEST_RELATIVE 2500                      /* the range of a relative; 0 for an absent unit, and only for it */
+#define VOUGECRESS_HIGHEST_RELATIVE 40000
+#define VOUGECRESS_LEAST_WEIGHT UINT64_C(1000000)            /* the least u or v of a unit that is present */
+#define VOUGECRESS_MOST_WEIGHT UINT64_C(100000000000000)     /* the W of an open in all, and the v of a record in all */
+#define VOUGECRESS_LOWEST_INDEX UINT64_C(100000000)          /* the range of an index: 10, */
+#define VOUGECRESS_HIGHEST_INDEX UINT64_C(10000000000)       /* to 1,000 */
+#define VOUGECRESS_INDEX_OF_100 UINT64_C(1000000000)
+#define VOUGECRESS_MOST_CLOSES 40                            /* closes of one chain */
+#define VOUGECRESS_MOST_SECTORS 64                           /* sectors of a total */
+#define VOUGECRESS_SECTOR_SCALE 1000000                      /* what the sector shares add to */
+#define VOUGECRESS_MOST_STREAM 32768                         /* bytes of a job stream */
+#define VOUGECRESS_MOST_HELD 1024                            /* units that a job stream holds */
 
 /* ---- Chain record ("Chain record")
  *
@@ -39,6 +103,7 @@ struct vougecress_figure {
 
 /*
  * Opens a chain: W, shares g in ten-thousandths and updating relatives a in ten-thousandths, one a unit, and a start index.
+ * An updating relative leads from the reference year, in which the turnovers were made, to the opening.
  * Writes the first 103 places of `record`. Answers 0, or 6 (record shorter than 103), 9, 10, 11, 12, 13, 21 or 22.
  */
 uint32_t vougecress_open(const uint64_t *weights, size_t weights_count,
@@ -46,6 +111,12 @@ uint32_t vougecress_open(const uint64_t *weights, size_t weights_count,
                          const uint32_t *relatives, size_t relatives_count,
                          uint64_t start,
                          uint64_t *record, size_t record_count);
+
+/*
+ * What the relatives of a quarter and of a close are measured against: prices at the opening or, after a close, at the last
+ * accepted close, and never at the quarter before. A price that rises by 2 percent in one quarter and by 2 percent more in the
+ * next has the relatives 10,200 and 10,404; 10,200 twice is the usual mistake, and gives the same figure twice.
+ */
 
 /* The figure F of a quarter with one relative a unit. Refusals 19, 9, 13, 23, 24. The record stays. */
 struct vougecress_figure vougecress_quarter(const uint64_t *record, size_t record_count,
@@ -78,6 +149,8 @@ struct vougecress_drawn {
 /*
  * The take-all group of a frame for a panel of z units. Writes a mark for each unit, 1 in the group and 0 outside, into the
  * first turnovers_count places of `marks`. Refusals 1, 3, 5, 6 (marks shorter than the turnovers).
+ * Which units of a panel are take-all: those whose place in the frame is marked by the call with the same turnovers and z
+ * (every marked unit is in the panel; examples/example.c). The weight does not tell, since n x turnover can equal X.
  */
 struct vougecress_taken vougecress_take_all(const uint64_t *turnovers, size_t turnovers_count, size_t z,
                                             uint8_t *marks, size_t marks_count);
@@ -130,7 +203,7 @@ struct vougecress_reading {
 
 struct vougecress_printed {
     uint32_t refusal;
-    uint64_t length; /* bytes of the whole text, after a refusal too */
+    uint64_t length; /* bytes of the text that was written */
 };
 
 /*
@@ -142,10 +215,12 @@ struct vougecress_reading vougecress_read(const uint8_t *stream, size_t stream_c
 /*
  * Does a whole stream and writes what the program chainrun prints for it into the first `length` places of `out`; places
  * beyond stay, and no zero byte is added. What the stream itself is refused by is a line of the text (`R number offset`) and
- * no refusal of the call. Refusal 6: `out` is shorter than the text. Then `out` is as it was, and `length` says how many
- * places the text takes, so that a first call with an empty buffer asks for the length.
+ * no refusal of the call. Refusal 6: `out` is shorter than the text; it is then as it was.
  */
 struct vougecress_printed vougecress_run(const uint8_t *stream, size_t stream_count, uint8_t *out, size_t out_count);
+
+/* The bytes of the text that vougecress_run writes for a stream. It only counts, and refuses nothing. */
+uint64_t vougecress_run_length(const uint8_t *stream, size_t stream_count);
 
 #ifdef __cplusplus
 }

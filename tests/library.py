@@ -46,6 +46,7 @@ SIGNATURES = {
     "vougecress_rotate": (RotatedAnswer, ("u32s", "u64s", "u32s", c_size_t, c_uint32, "u32s", c_uint32, "u32s")),
     "vougecress_read": (ReadAnswer, ("octets",)),
     "vougecress_run": (RunAnswer, ("octets", "octets")),
+    "vougecress_run_length": (c_uint64, ("octets",)),
 }
 ELEMENTS = {"u8s": c_uint8, "u32s": c_uint32, "u64s": c_uint64, "octets": c_uint8}
 
@@ -203,7 +204,14 @@ def read_command(part):
 
 
 def run(stream, out):
-    """The refusal's number (0: none), the bytes of the whole text, and the buffer afterwards."""
+    """The refusal's number (0: none), the bytes of the text that was written, and the buffer afterwards."""
     answer, (read, after) = call("vougecress_run", stream, out)
     unchanged([read], [stream])
     return answer.refusal, answer.length, after
+
+
+def run_length(stream):
+    """The bytes of the text that a run writes."""
+    length, lists = call("vougecress_run_length", stream)
+    unchanged(lists, [stream])
+    return length

@@ -98,6 +98,7 @@ NEAREST = {
     "TakeAll": ("frame",),
     "Draw": ("frame",),
     "Selection": ("frame",),
+    "Order": ("order",),
     "Rotation": ("rotation",),
     "Chain": ("open", "call"),
     "Direct": ("direct",),

@@ -39,12 +39,13 @@ def compare(t, octets, case):
 def compare_run(t, octets, expected, case):
     """The library's text: in a buffer that just fits, in a longer one, and not at all in one that is a byte short."""
     length = len(expected)
+    t.check(library.run_length(octets) == length, "the length of the library's run", repeat=case)
     for beyond in (0, 3):
         after = library.run(octets, FILL * (length + beyond))
         t.check(after == (0, length, expected + FILL * beyond), f"the library's run, {beyond} places beyond", repeat=case)
     if expected:
         after = library.run(octets, FILL * (length - 1))
-        t.check(after == (6, length, FILL * (length - 1)), "the library's run, a byte short", repeat=case)
+        t.check(after == (6, 0, FILL * (length - 1)), "the library's run, a byte short", repeat=case)
 
 
 def last_refusal(output):

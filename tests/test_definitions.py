@@ -12,18 +12,23 @@ from definitions import number_list
 from independent import Refused, chain, frame, stream
 
 
-def answer(kind, value, *fields):
-    """An answer as the definitions write it."""
+def judged(value, given):
+    """An answer as the definitions write it: a refusal's number, or what `given` makes of the value."""
     if isinstance(value, Refused):
-        return f"{kind}.refused {value.number}"
-    return " ".join([fields[0]] + [str(getattr(value, name)) for name in fields[1:]])
+        return f"Judged.refused {value.number}"
+    return f"Judged.given {given(value)}"
+
+
+def fields(**names):
+    """A record as the definitions write it: each field with the value's own name for it."""
+    return lambda value: "(record { " + "; ".join(f"{field} = {getattr(value, name)}" for field, name in names.items()) + " })"
 
 
 def draw_cases(numbers, turnovers, randoms, z, start, room_numbers, room_weights):
     told, after_numbers, after_weights = frame.draw(numbers, turnovers, randoms, z, start, room_numbers, room_weights)
     lists = " ".join(map(number_list, (numbers, turnovers, randoms)))
     rest = f"(frame {lists}) {z} {start} {number_list(room_numbers)} {number_list(room_weights)}"
-    yield f"drawAnswer {rest}", answer("DrawAnswer", told, "DrawAnswer.drawn", "n", "X")
+    yield f"drawAnswer {rest}", judged(told, fields(sampleSize="n", rest="X"))
     yield f"drawNumbers {rest}", number_list(after_numbers)
     yield f"drawWeights {rest}", number_list(after_weights)
 
@@ -31,7 +36,7 @@ def draw_cases(numbers, turnovers, randoms, z, start, room_numbers, room_weights
 def take_all_cases(turnovers, z, marks):
     told, after = frame.take_all_entry(turnovers, z, marks)
     rest = f"{number_list(turnovers)} {z} {number_list(marks)}"
-    yield f"takeAllAnswer {rest}", answer("TakeAllAnswer", told, "TakeAllAnswer.taken", "q", "n", "X")
+    yield f"takeAllAnswer {rest}", judged(told, fields(size="q", sampleSize="n", rest="X"))
     yield f"takeAllMarks {rest}", number_list(after)
 
 
@@ -39,14 +44,14 @@ def rotation_cases(numbers, turnovers, randoms, z, old, panel, f, room):
     told, leavers, _ = frame.rotate(numbers, turnovers, randoms, z, old, panel, f, room)
     lists = " ".join(map(number_list, (numbers, turnovers, randoms)))
     rest = f"(frame {lists}) {z} {old} {number_list(panel)} {f} {number_list(room)}"
-    yield f"rotationAnswer {rest}", answer("RotationAnswer", told, "RotationAnswer.rotated", "k", "new_start", "count")
+    yield f"rotationAnswer {rest}", judged(told, fields(step="k", start="new_start", leaving="count"))
     yield f"rotationLeavers {rest}", number_list(leavers)
 
 
 def frame_refusal_cases(numbers, turnovers, randoms, z, start):
     told = frame.frame_refusal(numbers, turnovers, randoms, z, start)
     lists = " ".join(map(number_list, (numbers, turnovers, randoms)))
-    yield f"frameRefusal (frame {lists}) {z} {start} 0", str(told or 0)
+    yield f"frameRefusal (frame {lists}) {z} {start}", str(told or 0)
 
 
 def record_text(record):
@@ -56,15 +61,14 @@ def record_text(record):
 
 def open_cases(W, g, a, start):
     told = chain.open_chain(W, g, a, start)
-    value = f"Opening.refused {told.number}" if isinstance(told, Refused) else f"Opening.opened {record_text(told)}"
-    yield f"openAnswer {number_list(W)} {number_list(g)} {number_list(a)} {start}", value
+    yield f"openAnswer {number_list(W)} {number_list(g)} {number_list(a)} {start}", judged(told, record_text)
 
 
 def call_cases(record, p):
     for name, call in (("quarter", chain.quarter), ("close", chain.close)):
         after, told = call(record, p)
         rest = f"{record_text(record)} (Call.{name} {number_list(p)})"
-        yield f"answerOf {rest}", answer("Answer", told, "Answer.figure", "F")
+        yield f"callAnswer {rest}", judged(told, lambda value: value.F)
         yield f"after {rest}", record_text(after)
 
 
@@ -83,7 +87,7 @@ def direct_cases(W, g, a, start, closes, p):
 
 def total_cases(shares, indices):
     told = chain.total(shares, indices)
-    yield f"totalAnswer {number_list(shares)} {number_list(indices)}", answer("TotalAnswer", told, "TotalAnswer.total", "total")
+    yield f"totalAnswer {number_list(shares)} {number_list(indices)}", judged(told, lambda value: value.total)
 
 
 def command_text(command):
@@ -91,13 +95,13 @@ def command_text(command):
     return "(" + " ".join([f"Command.{names[command[0]]}"] + [str(n) for n in command[1:]]) + ")"
 
 
+def front_text(told):
+    return "Front.ended" if told == stream.END else f"(Front.command {command_text(told)})"
+
+
 def reading_cases(part):
     told, rest = stream.read_command(bytes(part))
-    if isinstance(told, Refused):
-        value = f"Reading.refused {told.number}"
-    else:
-        value = "Reading.ended" if told == stream.END else f"Reading.command {command_text(told)}"
-    yield f"reading {number_list(part)}", value
+    yield f"reading {number_list(part)}", judged(told, front_text)
     yield f"restOf {number_list(part)}", number_list(rest)
 
 
@@ -310,8 +314,18 @@ def full_frame_cases():
         _, told = stream.step(job, ("unit", 1, 1, 1))
         lists = f"(frame (replicate {held} 0) (replicate {held} 0) (replicate {held} 0))"
         state = f"(record {{ units = {lists}; panel = []; shares = []; pending = []; chain = OpenChain.none }})"
-        value = f"Saying.refused {told.number}" if isinstance(told, Refused) else "Saying.nothing"
-        yield f"(step {state} (Command.unit 1 1 1)) .says", value
+        yield f"(step {state} (Command.unit 1 1 1)) .says", judged(told, lambda _: "Saying.nothing")
+
+
+def order_suite(rng, times):
+    """Units by falling key, equal keys by lower place; also units that are repeated, and lists of none and one."""
+    for _ in range(times):
+        keys = [rng.choice((0, 1, 5, 5, 10**12)) + rng.randrange(3) for _ in range(rng.randrange(1, 9))]
+        units = [rng.randrange(len(keys)) for _ in range(rng.randrange(9))]
+        for order in (units, rng.sample(range(len(keys)), len(keys))):
+            yield f"ordered (larger {number_list(keys)}) {number_list(order)}", number_list(frame.by_falling_key(keys, order))
+    # document 02's worked leavers, as places
+    yield "ordered (larger (10 ∷ 30 ∷ 20 ∷ 30 ∷ 25 ∷ 15 ∷ [])) (0 ∷ 1 ∷ 2 ∷ 3 ∷ [])", "(1 ∷ 3 ∷ 2 ∷ 0 ∷ [])"
 
 
 SUITES = {
@@ -319,6 +333,7 @@ SUITES = {
     "edges": lambda rng, times: edge_suite(),
     "reading": lambda rng, times: reading_suite(),
     "frame": lambda rng, times: frame_suite(rng, 60 * times),
+    "order": lambda rng, times: order_suite(rng, 30 * times),
     "rotation": lambda rng, times: rotation_suite(rng, 40 * times),
     "open": lambda rng, times: open_suite(rng, 90 * times),
     "call": lambda rng, times: call_suite(rng, 90 * times),

@@ -1,6 +1,8 @@
-"""What README.md and docs/ name is there: crates, functions, files, definitions, laws and tests."""
+"""What README.md and docs/ name is there: crates, functions, files, definitions, laws, tests and the toolchain."""
 
 import re
+import subprocess
+import tempfile
 from pathlib import Path
 
 ROOT = Path(__file__).resolve().parent.parent
@@ -54,7 +56,7 @@ def has_name(name):
 def test_items_and_files(t):
     for document in DOCUMENTS:
         for name in quoted(document.read_text()):
-            if re.fullmatch(r"[a-z0-9]+(::\w+)+", name):
+            if re.fullmatch(r"[a-z0-9_]+(::\w+)+", name):
                 t.check(has_item(name), f"{document.name}: no item {name}")
             elif re.fullmatch(r"[\w-]+(/[\w+.-]+)+", name) and "NAME" not in name:
                 t.check(has_file(name), f"{document.name}: no file {name}")
@@ -73,10 +75,9 @@ def test_table_cells(t):
 
 
 def test_the_map_of_crates(t):
-    text = (ROOT / "README.md").read_text().split("## The crates")[1].split("```")[1]
-    named = set(re.findall(r"(?:^ |  )([a-z0-9]+)(?=  )", text, re.MULTILINE))
-    for name in CRATES:
-        t.check(name in named, f"README.md: the map lacks {name}")
+    named = re.findall(r"^\| `(\w+)` \|", (ROOT / "docs" / "CRATES.md").read_text(), re.MULTILINE)
+    t.check(len(named) == len(set(named)), "docs/CRATES.md names a crate once")
+    t.check(set(named) == set(CRATES), "docs/CRATES.md names every crate", sorted(set(named) ^ set(CRATES)))
     made = {path.name for path in (ROOT / "crates").iterdir()}
     t.check(made == set(CRATES), "crates.txt lists every crate", sorted(made ^ set(CRATES)))
 
@@ -88,3 +89,27 @@ def test_counts(t):
             t.check(int(count) == edits, f"{document.name}: {count} must-fail edits, there are {edits}")
         for count in re.findall(r"all (\d+) crates", document.read_text()):
             t.check(int(count) == len(CRATES), f"{document.name}: {count} crates, there are {len(CRATES)}")
+
+
+def printed_by_rt(*words):
+    """What `rt` prints, of both kinds."""
+    return subprocess.run(["rt", *words], stdout=subprocess.PIPE, stderr=subprocess.STDOUT, text=True, check=True).stdout
+
+
+def sum_of_a_check():
+    """The logic's sum that the check of a small crate says at its end."""
+    with tempfile.TemporaryDirectory() as folder:
+        crate = Path(folder) / "small"
+        (crate / "src").mkdir(parents=True)
+        (crate / "src" / "lib.rt").write_text("pub fn one() -> u32 { 1 }\n")
+        last = printed_by_rt("check", str(crate)).splitlines()[-1]
+    return re.fullmatch(r"logic=proved .*\bsum=(\w+)\b.*", last)[1]
+
+
+def test_toolchain(t):
+    """The kit that PROOFS.md names is the one that checks the proofs."""
+    section = (ROOT / "docs" / "PROOFS.md").read_text().split("\n## Toolchain\n")[1].split("\n## ")[0]
+    named, version = re.findall(r"^    (.+)$", section, re.MULTILINE), printed_by_rt("version").strip()
+    t.check(named == [version], "PROOFS.md: what `rt version` prints", (named, version))
+    sums, checked = re.findall(r"sum=(\w+)", section), sum_of_a_check()
+    t.check(sums == [checked], "PROOFS.md: the sum at the end of a check", (sums, checked))

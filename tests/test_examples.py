@@ -1,43 +1,91 @@
-"""The worked examples in C and Python: both print what the independent computation gives."""
+"""The worked year in C, in Python and as a job: all print what the independent computation gives."""
 
+import re
 import subprocess
 import tempfile
 from pathlib import Path
 
+import commands
 import library
 from independent import chain, frame
 
 TOP = Path(__file__).resolve().parent.parent
+NUMBERS, TURNOVERS = [11, 12, 13, 14, 15], [70_000_000, 10_000_000, 8_000_000, 7_000_000, 5_000_000]
+RANDOMS = [300_000, 500_000, 200_000, 900_000, 100_000]
+SIZE = 3
+
+
+def drawn_from(start):
+    """The panel, its weights, and the lines that say them: those of the examples and those of the job."""
+    drawn, panel, weights = frame.draw(NUMBERS, TURNOVERS, RANDOMS, SIZE, start, [0] * SIZE, [0] * SIZE)
+    _, marks = frame.take_all_entry(TURNOVERS, SIZE, [0] * len(NUMBERS))
+    lines = [f"draw from start {start}: n = {drawn.n}, X = {drawn.X}"]
+    for unit, weight in zip(panel, weights):
+        lines.append(f"  unit {unit} weight {weight} {'take-all' if marks[NUMBERS.index(unit)] else 'sampled'}")
+    return panel, weights, lines, [f"P {unit} {weight}" for unit, weight in zip(panel, weights)]
 
 
 def expected():
-    """What the examples print, reckoned independently."""
-    numbers, turnovers = [11, 12, 13, 14, 15], [70_000_000, 10_000_000, 8_000_000, 7_000_000, 5_000_000]
-    randoms = [300_000, 500_000, 200_000, 900_000, 100_000]
-    drawn, panel, weights = frame.draw(numbers, turnovers, randoms, 3, 0, [0] * 3, [0] * 3)
-    lines = [f"panel of 3: n = {drawn.n}, X = {drawn.X}"]
-    lines += [f"  unit {unit} weight {weight}" for unit, weight in zip(panel, weights)]
-    turn, leavers, _ = frame.rotate(numbers, turnovers, randoms, 3, 0, panel, 500, [0] * 3)
-    lines.append(f"rotation: step {turn.k}, new start {turn.new_start}, {turn.count} leaver(s), first {leavers[0]}")
-    record = chain.open_chain(weights, [10_000] * 3, [10_000] * 3, 10**9)
-    lines.append("open: refusal 0")
-    for number, p in enumerate([[10_100, 10_000, 10_000], [10_200, 9_900, 10_500], [10_400, 9_800, 11_000]], 1):
-        lines.append(f"quarter {number}: {chain.quarter(record, p)[1].F}")
+    """What the examples print and what the job prints, reckoned independently."""
+    panel, weights, lines, job = drawn_from(0)
+    record = chain.open_chain(weights, [10_000] * SIZE, [10_000] * SIZE, 10**9)
+    lines.append("opened at 1000000000")
+    for name, relatives in (("first", [10_200] * SIZE), ("second", [10_404] * SIZE), ("third", [10_500, 9_900, 11_500])):
+        figure = chain.quarter(record, relatives)[1].F
+        lines.append(f"{name} quarter: {figure}")
+        job.append(f"Q {figure}")
     record, figure = chain.close(record, [10_500, 9_800, 12_000])
-    lines += [f"close of the year: {figure.F}", f"index now {record.index} after {record.closes} close"]
-    lines.append(f"a relative of 2,499: refusal {chain.quarter(record, [2_499, 10_000, 10_000])[1].number}")
-    lines.append(f"total: {chain.total([600_000, 400_000], [record.index, 10**9]).total}")
-    return "".join(line + "\n" for line in lines)
+    lines.append(f"close of the year: {figure.F}")
+    job.append(f"C {figure.F}")
+    turn, leavers, _ = frame.rotate(NUMBERS, TURNOVERS, RANDOMS, SIZE, 0, panel, 500, [0] * SIZE)
+    left = " ".join(str(unit) for unit in leavers[: turn.count])
+    lines.append(f"rotation of half: step {turn.k}, new start {turn.new_start}, leavers {left}")
+    _, weights, drawn, printed = drawn_from(turn.new_start)
+    record = chain.open_chain(weights, [10_000] * SIZE, [10_500, 10_300, 9_800], figure.F)
+    quarter = chain.quarter(record, [10_000, 10_100, 10_200])[1].F
+    lines += [*drawn, f"opened at {figure.F}", f"first quarter: {quarter}"]
+    job += [*printed, f"Q {quarter}"]
+    refused = chain.quarter(record, [2_499, 10_000, 10_000])[1].number
+    lines.append(f"a relative of 2,499: refusal {refused} (relatives)")
+    lines.append(f"total of the year over two sectors: {chain.total([600_000, 400_000], [figure.F, 10**9]).total}")
+    return "".join(line + "\n" for line in lines), "".join(line + "\n" for line in job)
 
 
 def test_examples(t):
     library.built()
+    wanted, _ = expected()
     with tempfile.TemporaryDirectory() as folder:
         program = str(Path(folder) / "example")
-        build = ["gcc", "-Wall", "-Wextra", "-Werror", "-o", program, "examples/example.c", "-Ibuild", "build/libvougecress.a"]
+        build = ["gcc", "-std=c99", "-Wall", "-Wextra", "-Werror", "-o", program, "examples/example.c", "-Ibuild", "build/libvougecress.a"]
         made = subprocess.run(build, cwd=TOP, capture_output=True, text=True)
         t.check(made.returncode == 0, "the example in C compiles without a warning", repeat=made.stderr)
-        printed = subprocess.run([program], capture_output=True, text=True).stdout
-        t.check(printed == expected(), "the example in C prints what the independent computation gives", repeat=printed)
-    printed = subprocess.run(["python3", "examples/example.py"], cwd=TOP, capture_output=True, text=True).stdout
-    t.check(printed == expected(), "the example in Python prints the same", repeat=printed)
+        done = subprocess.run([program], capture_output=True, text=True)
+        t.check((done.returncode, done.stdout) == (0, wanted), "the example in C prints what the independent computation gives", done)
+    done = subprocess.run(["python3", "examples/example.py"], cwd=TOP, capture_output=True, text=True)
+    t.check((done.returncode, done.stdout) == (0, wanted), "the example in Python prints the same", done)
+
+
+def test_the_year_as_a_job(t):
+    commands.built()
+    _, wanted = expected()
+    answer = commands.run([TOP / "run.sh", "examples/year.txt"])
+    t.check(answer == (0, wanted.encode(), ""), "the job prints what the independent computation gives", answer)
+
+
+def test_the_mistake(t):
+    """10,200 twice gives the same figure twice, since both are measured against the opening."""
+    commands.built()
+    year = (TOP / "examples" / "year.txt").read_bytes()
+    status, printed, said = commands.run([TOP / "run.sh", "-"], text=year.replace(b" 10404\n", b" 10200\n"))
+    t.check((status, said) == (0, "") and printed.decode().split()[9:13] == ["Q", "1020000000"] * 2, "the same figure twice", printed)
+    for file in ("README.md", "include/vougecress.h", "examples/make_stream.py", "tools/job.py"):
+        text = " ".join((TOP / file).read_text().replace(",", "").split()).replace(" * ", " ")
+        t.check("quarter before" in text and "10404" in text and "same figure twice" in text, f"{file} says it", file)
+
+
+def test_every_call_of_the_example_is_looked_at(t):
+    """No answer of the library is used before its refusal: each call stands in `accepted`, or is followed by it."""
+    text = (TOP / "examples" / "example.c").read_text()
+    calls = len(re.findall(r"\bvougecress_(?!version)\w+\(", text))
+    looked_at = text.count("accepted(\"") + text.count("accepted(name") + text.count("uint32_t refusal = vougecress_")
+    t.check(calls == looked_at, "a look for each call", (calls, looked_at))

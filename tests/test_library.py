@@ -252,4 +252,6 @@ def test_nothing_lent(t):
     ran = library.built().vougecress_run(None, 0, None, 0)
     t.check((ran.refusal, ran.length) == (0, 0), "running nothing prints nothing")
     expected = stream.run(generate.LISTING)
-    t.check(library.run(generate.LISTING, b"") == (6, len(expected), b""), "an empty buffer is refused by 6 with the length")
+    t.check(library.run(generate.LISTING, b"") == (6, 0, b""), "an empty buffer is refused by 6 and nothing else")
+    t.check(library.run_length(generate.LISTING) == len(expected), "the length is an answer of its own")
+    t.check(library.run_length(b"") == 0, "nothing takes no byte")

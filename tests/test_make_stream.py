@@ -38,19 +38,20 @@ def test_each_command(t):
     answer = made(text)
     t.check(answer == (0, expected, ""), "all commands", answer)
     answer = made(b"open 000000000000000000000000000258\n")
-    t.check(answer == (0, b"\x05\x00\x00\x00\x00\x00\x00\x01\x02", ""), "leading zeros", answer)
-    t.check(made(b"") == (0, b"", ""), "nothing gives nothing", made(b""))
+    t.check(answer[:2] == (0, b"\x05\x00\x00\x00\x00\x00\x00\x01\x02"), "leading zeros", answer)
+    status, stream, said = made(b"")
+    t.check((status, stream) == (0, b"") and "no command" in said, "nothing gives nothing, with a word", said)
 
 
 BAD_LINES = [
     (b"close\nsell 3\n", "line 2: unknown command 'sell'"),
     (b"\n# one\nunit 1 2\n", "line 3: 2 numbers given; the line has the form: unit NUMBER TURNOVER RANDOM_NUMBER"),
-    (b"close 1\n", "line 1: 1 numbers given; the line has the form: close"),
+    (b"close 1\n", "line 1: 1 number given; the line has the form: close"),
     (b"draw 256 0\n", "line 1: size 256 does not fit in 1 byte\n"),
     (b"share 0 65536\n", "line 1: share 65536 does not fit in 2 bytes"),
     (b"relative 0 4294967296\n", "line 1: relative 4294967296 does not fit in 4 bytes"),
     (b"open 18446744073709551616\n", "line 1: start index 18446744073709551616 does not fit in 8 bytes"),
-    (b"open " + b"9" * 5_000, "does not fit in 8 bytes"),
+    (b"open " + b"9" * 5_000, "... (5000 characters) does not fit in 8 bytes"),
     (b"open -1\n", "line 1: start index is '-1', not a number in decimal digits"),
     (b"open 1_000\n", "line 1: start index is '1_000', not a number"),
     (b"open 1e9\n", "line 1: start index is '1e9', not a number"),
@@ -64,3 +65,16 @@ def test_bad_lines(t):
         t.check(reason in said, "the line and the reason", (text, said))
     status, stream, said = made(b"", str(EXAMPLES / "no such file"))
     t.check((status, stream) == (2, b"") and "no such file" in said, "no such file", said)
+
+
+def test_writing_fails(t):
+    """A full device is status 3; options and further files are wrong use."""
+    command = [sys.executable, "-B", str(EXAMPLES / "make_stream.py")]
+    with open("/dev/full", "wb") as full:
+        done = subprocess.run(command, input=b"close\n", stdout=full, stderr=subprocess.PIPE, timeout=60)
+    t.check(done.returncode == 3 and b"No space left on device" in done.stderr, "a full device", done)
+    for words in (["--nonsense"], ["a", "b"], [""]):
+        status, stream, said = made(b"close\n", *words)
+        t.check((status, stream) == (2, b"") and said.count("\n") == 1, "wrong use", (words, status, said))
+    status, text, said = made(b"", "--help")
+    t.check((status, said) == (0, "") and b"never against the quarter before" in text, "help", (status, said))

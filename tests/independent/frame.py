@@ -63,9 +63,14 @@ def reaches(places, turnover, X):
     return places * turnover >= X
 
 
+def by_falling_key(keys, places):
+    """The places of a list by falling key, equal keys by lower place."""
+    return sorted(places, key=lambda i: (-keys[i], i))
+
+
 def take_all(turnovers, z):
     """The smallest q for which the test holds for at most q units of the whole frame."""
-    largest_first = sorted(range(len(turnovers)), key=lambda i: (-turnovers[i], i))
+    largest_first = by_falling_key(turnovers, range(len(turnovers)))
     for q in range(z):
         X = sum(turnovers[i] for i in largest_first[q:])
         count = sum(1 for turnover in turnovers if reaches(z - q, turnover, X))

@@ -1,64 +1,67 @@
--- Laws of a call's refusals and of what it answers (`rules`, Chain): what an admitted call knows, how 19, 9 and 13 stop it or let it go on, and the answer and the record that go with a refusal or a figure.
-use mathlib.Core.Path.{_≡_, refl, sym, _∙_}
-use mathlib.Core.Bool.{false, not}
+-- What the steps of a call tell (`rules`, Chain): its refusal, the answer and the record that go with it, and the sizes of an admitted record.
+use mathlib.Core.Path.{_≡_, sym, ap, _∙_}
 use mathlib.Core.List.{List, _++_}
-use Prim.Native.Nat.{ℕ, _<_, _≤_, _^_}
+use Prim.Native.Nat.{ℕ, _+_, _<_, _≤_, _^_}
+use native.Mathlib.Numerals.{add-one}
 use native.Mathlib.Omega.{arith}
-use lib.Dec.{eqb}
 use lib.ListN.{length, take, drop, length-append, length-drop}
 use lib.Seq.{length-take-le, take-at}
-use borrow.Author.Tests.{eqb-true, not-false}
-use Rattle.refusals.specs.Number.{numberOf}
+use Rattle.refusals.specs.Number.{numberOf, verdictOf}
 use Rattle.refusals.specs.declared.Refusal.{Refusal}
+use Rattle.refusals.specs.declared.Verdict.{Verdict}
+use Rattle.refusals.proofs.Answers.{stops-by, refused-by, stays-by}
 use Rattle.rules.specs.Limits.{relativeScale, mostPanel}
-use Rattle.rules.specs.Tests.{refuse}
-use Rattle.rules.specs.Lists.{sum, products, anyPair}
-use Rattle.rules.specs.Chain.{Chain, held, badRelative, broken, callRefusal, moved, answerBy, afterBy}
-use Rattle.rules.proofs.Tests.{refuse-none, refuse-keeps}
-use Rattle.passes.proofs.Lists.{products-bound, length-scaled}
-use Rattle.refusals.proofs.Numbers.{number-is-suc, not-none}
-use Rattle.figures.specs.Steps.{Reckonable}
-use Rattle.figures.proofs.Sound.{Sound, sound-facts}
-use Rattle.chain.specs.Record.{answerFrom}
-use Rattle.chain.specs.declared.Answer.the-variants.{Figure, Refused}
+use Rattle.rules.specs.Refusals.{Judged, _then_}
+use Rattle.rules.specs.Lists.{sum, products, scaled}
+use Rattle.rules.specs.Chain.{Chain, Call, relatives, held, moved, figureOf, accepted, callAnswer, after}
+use Rattle.rules.specs.Chain.{callInputRefusal, newWeightRefusal, callRefusal}
+use Rattle.rules.proofs.Refusals.{then-goes, given-tells, refused-tells}
+use Rattle.rules.proofs.Lists.{length-scaled, scaled-take, products-take}
+use Rattle.rules.proofs.Chains.{Admitted, admitted}
+use Rattle.chain_sums.proofs.Relatives.{products-bound}
+use Rattle.chain_figure.specs.Steps.{recordWith, Reckoning, reckoningOf, reckonedOf, reckonedFrom}
+use Rattle.chain_figure.specs.declared.Reckoned.{Reckoned}
+use Rattle.chain_figure.specs.declared.Reckoned.the-variants.{Refused, Figure}
 
-pub record Admitted (r : Chain) (ps : List ℕ) : Type 0 where
-  pub sound : Sound r
-  pub long : length ps ≡ r .units
-  pub relatives : anyPair badRelative (held r) ps ≡ false
+-- ---- the answer and the record
+module _ (r : Chain) (call : Call) where
+  pub refused-call : (why : Refusal) → numberOf why ≡ callRefusal r call → (Judged.refused (numberOf why) ≡ callAnswer r call) × (r ≡ after r call)
+  unfolding callAnswer after
+  refused-call why e = (refused-by why _ e _, stays-by why _ e _ _)
 
-module _ (r : Chain) (ps : List ℕ) where
-  -- a call that 19, 9 and 13 let pass
-  pub admitted : callRefusal r ps 0 ≡ 0 → Admitted r ps
-  unfolding callRefusal
-  admitted e =
-      let state = refuse-none (broken r) 18 _ e in
-      let lists = refuse-none (not (eqb (length ps) (r .units))) 8 _ (state .1) in
-      let relatives = refuse-none (anyPair badRelative (held r) ps) 12 0 (lists .1) in
-      record {
-        sound = sound-facts r (state .0);
-        long = eqb-true (length ps) (r .units) (not-false _ (lists .0));
-        relatives = relatives .0;
-      }
+  pub accepted-call : (f : ℕ) (next : Chain) → callRefusal r call ≡ 0 → f ≡ figureOf r (relatives call) → next ≡ accepted r call →
+      (Judged.given f ≡ callAnswer r call) × (next ≡ after r call)
+  unfolding callAnswer after
+  accepted-call f next none figure moves = (rw (none, figure), rw (none, moves))
 
-  pub call-stops : (later : ℕ) (why : Refusal) → numberOf why ≡ callRefusal r ps 0 → callRefusal r ps later ≡ numberOf why
-  unfolding callRefusal
-  call-stops later why e =
-      refuse-keeps (broken r) 19 _ _
-      (refuse-keeps (not (eqb (length ps) (r .units))) 9 _ _
-      (refuse-keeps (anyPair badRelative (held r) ps) 13 _ _ (λ l. absurd (l refl))))
-      (not-none why _ e)
-      ∙ sym e
+  -- what the code's reckoning of the call tells
+  module _ (x : Reckoned) (e : reckonedFrom x ≡ reckonedOf r (relatives call)) where
+    pub input-refused : (why : Refusal) → x ≡ Refused why → numberOf why ≡ callRefusal r call
+    unfolding reckonedOf callRefusal
+    input-refused why told = stops-by why _ _ (refused-tells _ _ _ (sym (ap reckonedFrom told) ∙ e))
 
-  pub call-goes : (later : ℕ) → callRefusal r ps 0 ≡ 0 → callRefusal r ps later ≡ later
-  unfolding callRefusal refuse
-  call-goes later e =
-      let state = refuse-none (broken r) 18 _ e in
-      let lists = refuse-none (not (eqb (length ps) (r .units))) 8 _ (state .1) in
-      let relatives = refuse-none (anyPair badRelative (held r) ps) 12 0 (lists .1) in
-      simp (state .0, lists .0, relatives .0)
+    module _ (f : ℕ) (late : Verdict) (told : x ≡ Figure f late) where
+      tells : (callInputRefusal r (relatives call) ≡ 0) × (record { figure = f; late = verdictOf late } ≡ reckoningOf r (relatives call))
+      unfolding reckonedOf
+      tells = given-tells _ _ _ (sym (ap reckonedFrom told) ∙ e)
 
--- the places of an admitted record hold all its units, and its figure can be reckoned
+      pub input-passed : Admitted r (relatives call)
+      input-passed = admitted r (relatives call) (tells .0)
+
+      pub figure-is : f ≡ figureOf r (relatives call)
+      figure-is = ap (λ (y : Reckoning). y .figure) (tells .1)
+
+      -- new weights are judged before 23 and 24
+      pub refusal-is : callRefusal r call ≡ (newWeightRefusal r call then verdictOf late)
+      unfolding callRefusal
+      refusal-is = then-goes _ _ (tells .0) ∙ sym (ap (λ (y : Reckoning). newWeightRefusal r call then y .late) (tells .1))
+
+-- the record of a close whose places, index and count of closes are those
+pub closed-record : (r : Chain) (ps next : List ℕ) (f : ℕ) → next ≡ moved r ps ++ drop (r .units) (r .weights) → f ≡ figureOf r ps →
+    recordWith next (r .units) f (r .closes + 1) ≡ accepted r (Call.close ps)
+closed-record r ps next f e h = rw (e, h, add-one)
+
+-- ---- the places of an admitted record
 module _ (r : Chain) (ps : List ℕ) (places : length (r .weights) ≡ mostPanel) (a : Admitted r ps) where
   pub units-fit : r .units ≤ length (r .weights)
   units-fit = omega (arith, a .sound .most)
@@ -67,43 +70,27 @@ module _ (r : Chain) (ps : List ℕ) (places : length (r .weights) ≡ mostPanel
   unfolding held
   length-held = length-take-le (r .units) (r .weights) units-fit
 
-  pub reckonable : Reckonable (held r) (r .index) ps
-  reckonable =
-      record {
-        long = length-held ∙ sym (a .long);
-        relatives = a .relatives;
-        present = omega (arith, a .sound .present);
-        limit = a .sound .limit;
-        inRange = a .sound .index;
-      }
+  -- the relatives reach no further than the units
+  held-is : held r ≡ take (length ps) (r .weights)
+  unfolding held
+  held-is = ap (λ (n : ℕ). take n (r .weights)) (sym (a .long))
+
+  pub moved-is : scaled relativeScale (r .weights) ps ≡ moved r ps
+  moved-is = sym (ap (λ (vs : List ℕ). scaled relativeScale vs ps) held-is ∙ scaled-take relativeScale (r .weights) ps)
 
   -- the products v × p are below 2^64
-  pub products-fit : sum (products (held r) ps) < 2 ^ 64
+  pub products-fit : sum (products (r .weights) ps) < 2 ^ 64
   products-fit =
       let h : length ps ≤ length (held r) = omega (arith, a .long, length-held) in
+      let same = ap (λ (vs : List ℕ). sum (products vs ps)) held-is ∙ ap sum (products-take (r .weights) ps) in
       omega (arith, a .sound .limit, products-bound (held r) (held r) ps (a .relatives) h)
 
-  -- the new weights are as many as the units
-  pub length-moved : length (moved r ps) ≡ r .units
+  length-moved : length (moved r ps) ≡ r .units
   length-moved = length-scaled relativeScale (held r) ps (length-held ∙ sym (a .long)) ∙ length-held
 
-  pub take-moved : (rest : List ℕ) → take (r .units) (moved r ps ++ rest) ≡ moved r ps
-  take-moved rest = take-at (moved r ps) rest (r .units) length-moved
-
-  -- and with the places beyond the units they fill the record
+  -- the new weights with the places beyond the units fill the record, and are the first of it
   pub length-next : length (moved r ps ++ drop (r .units) (r .weights)) ≡ mostPanel
-  length-next =
-      simp length-append (omega (arith, places, length-moved, length-drop (r .units) (r .weights), units-fit))
+  length-next = simp length-append (omega (arith, places, length-moved, length-drop (r .units) (r .weights), units-fit))
 
--- ---- the answer and the record that go with a refusal, and with a figure
-pub refused-answer : (n f : ℕ) (why : Refusal) → n ≡ numberOf why → answerFrom (Refused why) ≡ answerBy n f
-refused-answer n f why e = rw (e, number-is-suc why)
-
-pub refused-record : (n : ℕ) (r next : Chain) (why : Refusal) → n ≡ numberOf why → r ≡ afterBy n r next
-refused-record n r next why e = rw (e, number-is-suc why)
-
-pub figure-answer : (n f g : ℕ) → n ≡ 0 → f ≡ g → answerFrom (Figure f) ≡ answerBy n g
-figure-answer n f g e h = rw (e, h)
-
-pub figure-record : (n : ℕ) (r next next′ : Chain) → n ≡ 0 → next ≡ next′ → next ≡ afterBy n r next′
-figure-record n r next next′ e h = rw (e, h)
+  pub take-next : take (r .units) (moved r ps ++ drop (r .units) (r .weights)) ≡ moved r ps
+  take-next = take-at (moved r ps) _ (r .units) length-moved

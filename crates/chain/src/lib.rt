@@ -1,12 +1,13 @@
-// Document 01, "Chain record": quarter and close, by value on the record. The crate `figures` has the steps of both; opening a record is
-// the crate `opening`.
+// Document 01, "Chain record": quarter and close, by value on the record. The crate `chain_figure` has the steps of both; opening a record is
+// the crate `chain_open`.
+use chain_figure::Reckoned;
+use chain_relative::Relative;
+use limits::MOST_PANEL;
 use refusals::Refusal;
 use refusals::Verdict;
-use relative::Relative;
-use weights::MOST_PANEL;
 ghost use mathlib.Core.Path.{_≡_};
-ghost use Rattle.rules.specs.Chain.{Call, answerOf, after};
-ghost use Rattle.chain.specs.Record.{recordOf, answerFrom};
+ghost use Rattle.rules.specs.Chain.{Call, callAnswer, after};
+ghost use Rattle.chain.specs.Record.{recordOf, answerFrom, refusedWith, figuredWith};
 
 // `weights` has every place of the record; the units' v are the first `units` of them.
 pub struct Chain {
@@ -27,62 +28,60 @@ pub struct Answered {
     pub answer: Answer,
 }
 
+fn refused(chain: Chain, why: Refusal) -> Answered
+    ensures { λ r. ⌜ r ≡ refusedWith chain why ⌝ }
+{
+    Answered {
+        chain: chain,
+        answer: Answer::Refused(why),
+    }
+}
+
+fn figured(chain: Chain, f: u64) -> Answered
+    ensures { λ r. ⌜ r ≡ figuredWith chain f ⌝ }
+{
+    Answered {
+        chain: chain,
+        answer: Answer::Figure(f),
+    }
+}
+
 impl Chain {
     // The figure of a quarter; the record stays as it is.
     pub fn quarter(self, p: &[u32]) -> Answered
-        ensures { λ r. ⌜ answerFrom (r .answer) ≡ answerOf (recordOf self) (Call.quarter (now (p .entry))) ⌝ }
+        ensures { λ r. ⌜ answerFrom (r .answer) ≡ callAnswer (recordOf self) (Call.quarter (now (p .entry))) ⌝ }
         ensures { λ r. ⌜ recordOf (r .chain) ≡ after (recordOf self) (Call.quarter (now (p .entry))) ⌝ }
     {
         let n = self.units;
         let index = self.index;
         let closes = self.closes;
-        let entry = figures::judge_call(&self.weights, n, index, closes, p);
-        match entry {
-            Verdict::Refused(why) => Answered {
-                chain: self,
-                answer: Answer::Refused(why),
+        let reckoned = chain_figure::reckon(&self.weights, n, index, closes, p);
+        match reckoned {
+            Reckoned::Refused(why) => refused(self, why),
+            Reckoned::Figure(f, late) => match late {
+                Verdict::Refused(why) => refused(self, why),
+                Verdict::Accepted => figured(self, f),
             },
-            Verdict::Accepted => {
-                let f = figures::figure(&self.weights, n, index, p);
-                let last = figures::judge_last(f, closes);
-                match last {
-                    Verdict::Refused(why) => Answered {
-                        chain: self,
-                        answer: Answer::Refused(why),
-                    },
-                    Verdict::Accepted => Answered {
-                        chain: self,
-                        answer: Answer::Figure(f),
-                    },
-                }
-            }
         }
     }
 
     // The figure of a close, which moves the index and the weights and counts one close.
     pub fn close(self, p: &[u32]) -> Answered
-        ensures { λ r. ⌜ answerFrom (r .answer) ≡ answerOf (recordOf self) (Call.close (now (p .entry))) ⌝ }
+        ensures { λ r. ⌜ answerFrom (r .answer) ≡ callAnswer (recordOf self) (Call.close (now (p .entry))) ⌝ }
         ensures { λ r. ⌜ recordOf (r .chain) ≡ after (recordOf self) (Call.close (now (p .entry))) ⌝ }
     {
         let n = self.units;
         let index = self.index;
         let closes = self.closes;
-        let entry = figures::judge_call(&self.weights, n, index, closes, p);
-        match entry {
-            Verdict::Refused(why) => Answered {
-                chain: self,
-                answer: Answer::Refused(why),
-            },
-            Verdict::Accepted => {
-                let f = figures::figure(&self.weights, n, index, p);
+        let reckoned = chain_figure::reckon(&self.weights, n, index, closes, p);
+        match reckoned {
+            Reckoned::Refused(why) => refused(self, why),
+            Reckoned::Figure(f, late) => {
                 let mut next = self.weights;
-                passes::rescale(&mut next[..n], p, Relative::SCALE);
-                let rest = figures::judge_close(&self.weights, &next, n, f, closes);
-                match rest {
-                    Verdict::Refused(why) => Answered {
-                        chain: self,
-                        answer: Answer::Refused(why),
-                    },
+                chain_sums::scale_into(&self.weights, p, Relative::SCALE, &mut next[..n]);
+                let last = chain_figure::judge_close(&self.weights, &next, n, late);
+                match last {
+                    Verdict::Refused(why) => refused(self, why),
                     Verdict::Accepted => {
                         let count = closes + 1;
                         let chain = Chain {
@@ -91,10 +90,7 @@ impl Chain {
                             index: f,
                             closes: count,
                         };
-                        Answered {
-                            chain: chain,
-                            answer: Answer::Figure(f),
-                        }
+                        figured(chain, f)
                     }
                 }
             }

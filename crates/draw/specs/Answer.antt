@@ -1,9 +1,10 @@
--- What `draw` answers, as document 01's number and values (`rules`, `DrawAnswer`).
-use Rattle.rules.specs.Draw.{DrawAnswer, refused, drawn}
+-- What `draw` answers, in the words of `rules`.
+use Rattle.rules.specs.Refusals.{Judged}
+use Rattle.rules.specs.Draw.{Drawn}
 use Rattle.refusals.specs.Number.{numberOf}
 use Rattle.draw.specs.declared.Answer.{Answer}
-use Rattle.draw.specs.declared.Answer.the-variants.{Drawn, Refused}
+use Rattle.draw.specs.declared.Answer.the-variants.{Drawn as Sampled, Refused}
 
-abbrev pub answerOf : Answer → DrawAnswer
-answerOf (Drawn n rest) = drawn n rest
-answerOf (Refused why) = refused (numberOf why)
+abbrev pub answerFrom : Answer → Judged Drawn
+answerFrom (Sampled n rest) = Judged.given (record { sampleSize = n; rest = rest })
+answerFrom (Refused why) = Judged.refused (numberOf why)

@@ -1,21 +1,20 @@
 // The draw (document 01, "Frame and weights" and "Draw"; 001, section 2.3 and formulas 21 and 22): a panel of z units of a frame, under a start.
-use frame::MOST_FRAME;
 use group::Group;
+use limits::MOST_FRAME;
 use refusals::Refusal;
 use refusals::Verdict;
 ghost use mathlib.Core.Path.{_≡_};
-ghost use mathlib.Core.List.{_++_};
 ghost use Prim.Native.Nat.{_+_, _≤_};
-ghost use lib.ListN.{length, getD, drop};
-ghost use Rattle.rules.specs.Selection.{count, listed};
-ghost use Rattle.rules.specs.TakeAll.{frame, baseWeight};
-ghost use Rattle.rules.specs.Draw.{drawnBy, drawRefusal, drawAnswer, drawNumbers, drawWeights};
+ghost use lib.ListN.{length};
+ghost use Rattle.rules.specs.TakeAll.{frame};
+ghost use Rattle.rules.specs.Draw.{drawRefusal, drawAnswer, drawNumbers, drawWeights};
 ghost use Rattle.refusals.specs.Number.{verdictOf};
-ghost use Rattle.largest.specs.Sized.{Sized};
-ghost use Rattle.group.specs.Group.{IsGroup, rulesGroup};
-ghost use Rattle.terms.specs.Terms.{unnumbered, Ready};
-ghost use Rattle.terms.specs.Gaps.{Gaps};
-ghost use Rattle.draw.specs.Answer.{answerOf};
+ghost use Rattle.group_largest.specs.Sized.{Sized};
+ghost use Rattle.group.specs.Group.{IsGroup};
+ghost use Rattle.draw_terms.specs.Terms.{Ready};
+ghost use Rattle.draw_terms.specs.Gaps.{Gaps};
+ghost use Rattle.draw_panel.specs.Panel.{numbersOver, weightsOver};
+ghost use Rattle.draw.specs.Answer.{answerFrom};
 
 // Units of a small frame: as many as a job holds.
 const SMALL_FRAME: usize = 1024;
@@ -65,13 +64,12 @@ fn write_ordered(
 )
     requires { ⌜ Ready (now turnovers) (now randoms) g start × Gaps (now turnovers) g (now gaps) × Sized (now turnovers) (g .q + g .n) ⌝ }
     requires { ⌜ (length (now numbers) ≡ length (now turnovers)) × (g .q + g .n ≤ length (now panel)) × (g .q + g .n ≤ length (now weights)) ⌝ }
-    ensures { λ _. ⌜ now (panel .exit) ≡ listed (drawnBy (unnumbered (now (turnovers .entry)) (now (randoms .entry))) (rulesGroup (now (turnovers .entry)) g) start) (λ i. getD (now (numbers .entry)) i 0) (length (now (turnovers .entry))) ++ drop (g .q + g .n) (now (panel .entry)) ⌝ }
-    ensures { λ _. ⌜ now (weights .exit) ≡ listed (drawnBy (unnumbered (now (turnovers .entry)) (now (randoms .entry))) (rulesGroup (now (turnovers .entry)) g) start) (baseWeight (now (turnovers .entry)) (rulesGroup (now (turnovers .entry)) g)) (length (now (turnovers .entry))) ++ drop (g .q + g .n) (now (weights .entry)) ⌝ }
-    ensures { λ _. ⌜ count (drawnBy (unnumbered (now (turnovers .entry)) (now (randoms .entry))) (rulesGroup (now (turnovers .entry)) g) start) (length (now (turnovers .entry))) ≡ g .q + g .n ⌝ }
+    ensures { λ _. ⌜ now (panel .exit) ≡ numbersOver (now (numbers .entry)) (now (turnovers .entry)) (now (randoms .entry)) g start (now (panel .entry)) ⌝ }
+    ensures { λ _. ⌜ now (weights .exit) ≡ weightsOver (now (numbers .entry)) (now (turnovers .entry)) (now (randoms .entry)) g start (now (weights .entry)) ⌝ }
 {
-    let largest = largest::largest_units(turnovers, g.q + g.n);
-    let sampled = ranking::sampled_units(turnovers, randoms, gaps, g, start);
-    panel::write_panel(
+    let largest = group_largest::largest_units(turnovers, g.q + g.n);
+    let sampled = draw_order::sampled_units(turnovers, randoms, gaps, g, start);
+    draw_panel::write_panel(
         numbers,
         turnovers,
         randoms,
@@ -98,15 +96,15 @@ fn draw_with(
     requires { ⌜ drawRefusal (frame (now numbers) (now turnovers) (now randoms)) z start (now panel) (now weights) ≡ 0 ⌝ }
     requires { ⌜ length (now turnovers) ≤ length (now gaps) ⌝ }
     ensures { λ g. ⌜ IsGroup (now (turnovers .entry)) z g ⌝ }
-    ensures { λ _. ⌜ now (panel .exit) ≡ drawNumbers (frame (now (numbers .entry)) (now (turnovers .entry)) (now (randoms .entry))) z start (now (panel .entry)) (now (weights .entry)) ⌝ }
-    ensures { λ _. ⌜ now (weights .exit) ≡ drawWeights (frame (now (numbers .entry)) (now (turnovers .entry)) (now (randoms .entry))) z start (now (panel .entry)) (now (weights .entry)) ⌝ }
+    ensures { λ g. ⌜ now (panel .exit) ≡ numbersOver (now (numbers .entry)) (now (turnovers .entry)) (now (randoms .entry)) g start (now (panel .entry)) ⌝ }
+    ensures { λ g. ⌜ now (weights .exit) ≡ weightsOver (now (numbers .entry)) (now (turnovers .entry)) (now (randoms .entry)) g start (now (weights .entry)) ⌝ }
 {
     let g = group::find_group(turnovers, z);
-    terms::gaps::fill(turnovers, g, gaps);
-    let reach = bounds::reach_of(g.n as u64);
-    let found = shortlist::find(turnovers, randoms, gaps, start, reach, z);
+    draw_terms::gaps::fill(turnovers, g, gaps);
+    let reach = draw_bound::reach_of(g.n as u64);
+    let found = draw_list::find(turnovers, randoms, gaps, start, reach, z);
     if found.sure {
-        panel::write_found(numbers, turnovers, randoms, g, start, found, panel, weights);
+        draw_panel::write_found(numbers, turnovers, randoms, g, start, found, panel, weights);
         return g;
     }
     write_ordered(numbers, turnovers, randoms, gaps, g, start, panel, weights);
@@ -125,8 +123,8 @@ fn draw_panel(
 ) -> Group
     requires { ⌜ drawRefusal (frame (now numbers) (now turnovers) (now randoms)) z start (now panel) (now weights) ≡ 0 ⌝ }
     ensures { λ g. ⌜ IsGroup (now (turnovers .entry)) z g ⌝ }
-    ensures { λ _. ⌜ now (panel .exit) ≡ drawNumbers (frame (now (numbers .entry)) (now (turnovers .entry)) (now (randoms .entry))) z start (now (panel .entry)) (now (weights .entry)) ⌝ }
-    ensures { λ _. ⌜ now (weights .exit) ≡ drawWeights (frame (now (numbers .entry)) (now (turnovers .entry)) (now (randoms .entry))) z start (now (panel .entry)) (now (weights .entry)) ⌝ }
+    ensures { λ g. ⌜ now (panel .exit) ≡ numbersOver (now (numbers .entry)) (now (turnovers .entry)) (now (randoms .entry)) g start (now (panel .entry)) ⌝ }
+    ensures { λ g. ⌜ now (weights .exit) ≡ weightsOver (now (numbers .entry)) (now (turnovers .entry)) (now (randoms .entry)) g start (now (weights .entry)) ⌝ }
 {
     if turnovers.len() <= SMALL_FRAME {
         let mut few = [0u64; SMALL_FRAME];
@@ -164,7 +162,7 @@ pub fn draw(
     panel: &mut [u32],
     weights: &mut [u64],
 ) -> Answer
-    ensures { λ r. ⌜ answerOf r ≡ drawAnswer (frame (now (numbers .entry)) (now (turnovers .entry)) (now (randoms .entry))) z start (now (panel .entry)) (now (weights .entry)) ⌝ }
+    ensures { λ r. ⌜ answerFrom r ≡ drawAnswer (frame (now (numbers .entry)) (now (turnovers .entry)) (now (randoms .entry))) z start (now (panel .entry)) (now (weights .entry)) ⌝ }
     ensures { λ _. ⌜ now (panel .exit) ≡ drawNumbers (frame (now (numbers .entry)) (now (turnovers .entry)) (now (randoms .entry))) z start (now (panel .entry)) (now (weights .entry)) ⌝ }
     ensures { λ _. ⌜ now (weights .exit) ≡ drawWeights (frame (now (numbers .entry)) (now (turnovers .entry)) (now (randoms .entry))) z start (now (panel .entry)) (now (weights .entry)) ⌝ }
 {

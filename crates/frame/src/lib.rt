@@ -1,5 +1,9 @@
 // The frame's tests (document 01, "Frame and weights", refusals 1 to 5). A frame is three lent lists: unit numbers, turnovers and
 // random numbers. Each test is a function of its own, one pass over one list; `judge` asks them in the order of the refusals.
+use limits::MOST_FRAME;
+use limits::MOST_PANEL;
+use limits::MOST_TURNOVER;
+use limits::RANDOM_RANGE;
 use refusals::Refusal;
 use refusals::Verdict;
 ghost use mathlib.Core.Path.{_≡_};
@@ -7,18 +11,6 @@ ghost use Rattle.rules.specs.Lists.{rising, anyOf};
 ghost use Rattle.rules.specs.TakeAll.{frame, badCount, badTurnovers, badSize};
 ghost use Rattle.rules.specs.Draw.{badLists, badRandom, frameRefusal};
 ghost use Rattle.refusals.specs.Number.{verdictOf};
-
-// Units in a frame.
-pub const MOST_FRAME: usize = 16384;
-
-// Euros in a frame.
-pub const MOST_TURNOVER: u64 = 1000000000000;
-
-// A random number is below this, and so is a start.
-pub const RANDOM_RANGE: u32 = 1000000;
-
-// Units in a panel.
-pub const MOST_PANEL: usize = 100;
 
 // "empty or over 16,384"
 pub fn bad_count(turnovers: &[u64]) -> bool
@@ -106,7 +98,7 @@ pub fn bad_size(turnovers: &[u64], z: usize) -> bool
 
 // Refusals 1 to 5, which draw and rotation share: the lowest that applies.
 pub fn judge(numbers: &[u32], turnovers: &[u64], randoms: &[u32], z: usize, start: u32) -> Verdict
-    ensures { λ r. ⌜ verdictOf r ≡ frameRefusal (frame (now (numbers .entry)) (now (turnovers .entry)) (now (randoms .entry))) z start 0 ⌝ }
+    ensures { λ r. ⌜ verdictOf r ≡ frameRefusal (frame (now (numbers .entry)) (now (turnovers .entry)) (now (randoms .entry))) z start ⌝ }
 {
     if bad_lists(numbers, turnovers, randoms) {
         return Verdict::Refused(Refusal::FrameLists);

@@ -4,8 +4,7 @@ use mathlib.Core.List.{List}
 use Prim.Native.Nat.{ℕ, _+_, _≤_, _<_}
 use lib.ListN.{length}
 use Rattle.rules.specs.Selection.{rank, every}
-use Rattle.rules.specs.TakeAll.{turnover, larger, largest, takeAllSize, takeAllGroup}
-use Rattle.rules.specs.TakeAll.{Group as RulesGroup}
+use Rattle.rules.specs.TakeAll.{turnover, larger, largest, takeAllSize, takeAllGroup, Group as RulesGroup}
 use Rattle.group.specs.declared.Group.{Group}
 
 -- m is the largest turnover of the first n units, 0 of none: at least each of them, and at most whatever else is

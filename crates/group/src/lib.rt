@@ -7,7 +7,7 @@ ghost use Rattle.rules.specs.Lists.{sum};
 ghost use Rattle.rules.specs.Selection.{every};
 ghost use Rattle.rules.specs.TakeAll.{larger, largest};
 ghost use Rattle.selection.specs.Ranked.{Ranked};
-ghost use Rattle.largest.specs.Sized.{Sized};
+ghost use Rattle.group_largest.specs.Sized.{Sized};
 ghost use Rattle.group.specs.Group.{Most, LastOf, IsGroup};
 
 // The take-all group as a value: q units, of which `last` is the last where there is one; n more are sampled, and rest is X.
@@ -91,7 +91,7 @@ pub fn find_group(turnovers: &[u64], z: usize) -> Group
             last: 0,
         };
     }
-    let top = largest::largest_units(turnovers, z);
+    let top = group_largest::largest_units(turnovers, z);
     grow(turnovers, z, total, &top)
 }
 
@@ -103,5 +103,5 @@ pub fn takes_all(turnovers: &[u64], g: Group, i: usize) -> bool
     if g.q == 0 {
         return false;
     }
-    !largest::larger_than(turnovers, g.last, i)
+    !group_largest::larger_than(turnovers, g.last, i)
 }

@@ -1,116 +1,99 @@
--- What a draw makes of a job, by the draw's answer: its two buffers have a place for each unit of a panel, and exactly z of each are written.
-use Prim.Native.Nat.{ℕ, zero, suc, _≤_, min}
-use mathlib.Core.Bool.{not}
+-- A draw on the code's job: its two buffers have a place for each unit of a panel, so that 6 does not apply, and exactly z places of each are
+-- written.
+use Prim.Native.Nat.{ℕ, zero, suc, min}
+use native.Mathlib.Omega.{arith}
 use mathlib.Core.Path.{_≡_, refl, sym, ap, _∙_}
 use mathlib.Core.List.{List}
-use lib.ListN.{length, getD, take, drop, replicate, length-replicate}
-use lib.Dec.{ltb}
+use lib.ListN.{length, take, drop}
 use lib.Seq.{take-at}
-use native.Mathlib.Omega.{arith}
-use native.Mathlib.Nat.{min-eq-left}
 use borrow.Author.Tests.{le-ltb}
 use Rattle.refusals.specs.declared.Refusal.{Refusal}
 use Rattle.refusals.specs.Number.{numberOf}
-use Rattle.rules.specs.Limits.{mostPanel}
-use Rattle.rules.specs.Tests.{_or_, refuse}
-use Rattle.rules.specs.Selection.{byKey, listed}
-use Rattle.rules.specs.TakeAll.{Frame, Group, takeAllGroup, baseWeight, written}
-use Rattle.rules.specs.Draw.{DrawAnswer, keyBelow, sampledBy, drawnBy, panelNumbers, panelWeights, frameRefusal, drawRefusal, drawBy, drawAnswer, drawNumbers, drawWeights}
-use Rattle.rules.specs.Job as rules
-use Rattle.rules.specs.Job.{refuses, drawnJob, drawStep, onDraw}
-use Rattle.frame.proofs.Refusals.{goes, stops}
+use Rattle.rules.specs.Limits.{mostHeld}
+use Rattle.rules.specs.Refusals.{judged, written}
+use Rattle.rules.specs.TakeAll.{Frame, Group, frame, takeAllGroup}
+use Rattle.rules.specs.Draw.{Drawn, panelNumbers, panelWeights, frameRefusal, drawRefusal, drawAnswer, drawNumbers, drawWeights}
+use Rattle.rules.specs.Stream.{Command}
+use Rattle.rules.specs.Job.{onDraw, step}
+use Rattle.rules.proofs.Tests.{or-off}
+use Rattle.rules.proofs.Refusals.{refuse-off, then-stops, then-goes, given-tells, refused-tells}
 use Rattle.frame.proofs.Accepted.{accepted}
-use Rattle.selection.proofs.Panel.{panel-length}
-use Rattle.keys.proofs.Keys.{keys-order-among}
-use Rattle.jobstate.specs.declared.Job.{Job}
-use Rattle.jobstate.specs.declared.Stepped.{Stepped}
-use Rattle.jobstate.specs.declared.Saying.the-variants.{Refused, Panel}
-use Rattle.jobstate.specs.State.{jobOf, stepFrom}
-use Rattle.jobstate.proofs.Jobs.{stepped}
+use Rattle.draw.specs.declared.Answer.{Answer}
+use Rattle.draw.specs.declared.Answer.the-variants as DrawAnswer
+use Rattle.draw.specs.Answer.{answerFrom}
+use Rattle.draw.proofs.Intended.{z-numbers, z-weights}
+use Rattle.job_state.specs.declared.Job.{Job}
+use Rattle.job_state.specs.declared.Stepped.{Stepped}
+use Rattle.job_state.specs.declared.Saying.the-variants.{Refused, Panel}
+use Rattle.job_state.specs.State.{jobOf}
+use Rattle.job_state.specs.Steps.{each, panelHeld, jobNext, plainStep, Steps}
+use Rattle.job_state.proofs.FirstPlaces.{Sized, lent}
+use Rattle.job_state.proofs.Jobs.{panel-held}
+use Rattle.job_state.proofs.Steps.{refused-step, accepted-step}
 
--- a buffer that was made of one number
-pub filled : (l : List ℕ) (places x : ℕ) → l ≡ replicate places x → length l ≡ places
-filled l places x e = ap length e ∙ length-replicate places x
+-- 6 does not apply to two buffers of a panel's size
+room : (f : Frame) (z start : ℕ) → drawRefusal f z start (each 0) (each 0) ≡ frameRefusal f z start
+unfolding drawRefusal
+room f z start = go (frameRefusal f z start) refl
+  where
+    go : (n : ℕ) → frameRefusal f z start ≡ n → drawRefusal f z start (each 0) (each 0) ≡ frameRefusal f z start
+    go zero e =
+        let few = le-ltb (length (each 0)) z (accepted f z start e .units .sizeFew) in
+        then-goes _ _ e ∙ refuse-off _ 6 (or-off _ _ few ∙ few) ∙ sym e
+    go (suc n) e = then-stops _ _ (λ none. let no : ⊥ = omega arith in no)
 
--- the step by the refusal that the draw's answer shows
-by-refused : (n k : ℕ) (g : Group) (j : rules.Job) (z : ℕ) (ns ws : List ℕ) → DrawAnswer.refused k ≡ drawBy n g → drawStep n j z ns ws ≡ refuses j k
-by-refused zero k g j z ns ws e = cc
-by-refused (suc n) k g j z ns ws e = cc
+-- the first places of a buffer that holds a panel
+front : (news buffer : List ℕ) (z : ℕ) → length news ≡ z → take z (written 0 news buffer) ≡ news
+front news buffer z e = take-at news (drop (length news) buffer) z e
 
-by-drawn : (n a b : ℕ) (g : Group) → DrawAnswer.drawn a b ≡ drawBy n g → n ≡ 0
-by-drawn zero a b g e = refl
-by-drawn (suc n) a b g e = cc
+module _ (j : Job) (z start : ℕ) (places : Sized j) (units : ℕ) (e : units ≡ min (j .units) mostHeld) where
+  abbrev f : Frame
+  f = jobOf j .units
 
-module _ (f : Frame) (z start : ℕ) (numbers weights : List ℕ) (hn : length numbers ≡ mostPanel) (hw : length weights ≡ mostPanel) where
-  -- 6 does not apply to two buffers of a panel's size
-  room : z ≤ mostPanel → refuse (ltb (length numbers) z or ltb (length weights) z) 6 0 ≡ 0
-  unfolding refuse _or_
-  room h =
-      let a : z ≤ length numbers = omega arith in
-      let b : z ≤ length weights = omega arith in
-      simp (le-ltb _ _ a, le-ltb _ _ b)
+  abbrev g : Group
+  g = takeAllGroup (f .turnovers) z
 
-  no-room-needed : drawRefusal f z start numbers weights ≡ frameRefusal f z start 0
-  unfolding drawRefusal
-  no-room-needed = go (frameRefusal f z start 0) refl
-    where
-      go : (n : ℕ) → frameRefusal f z start 0 ≡ n → frameRefusal f z start (refuse (ltb (length numbers) z or ltb (length weights) z) 6 0) ≡ frameRefusal f z start 0
-      go zero e = goes f z start _ e ∙ room (accepted f z start e .units .sizeFew) ∙ sym e
-      go (suc n) e = stops f z start _ (λ o. let no : ⊥ = omega arith in no)
+  -- the parts that are lent are the frame that the job stands for
+  abbrev part : Frame
+  part = frame (take units (j .numbers)) (take units (j .turnovers)) (take units (j .randoms))
 
--- exactly z units are in the panel
-module _ (f : Frame) (z start : ℕ) (e : frameRefusal f z start 0 ≡ 0) where
-  panel-size : (value : ℕ → ℕ) → length (listed (drawnBy f (takeAllGroup (f .turnovers) z) start) value (length (f .turnovers))) ≡ z
-  unfolding drawnBy sampledBy takeAllGroup
-  panel-size value =
-      let g = takeAllGroup (f .turnovers) z in
-      let a = accepted f z start e in
-      panel-length (f .turnovers) z (a .units .sizeWithin) (byKey (keyBelow f g start)) (keys-order-among f z start a start (λ i. not (g .takesAll i)) g) value
+  same-frame : part ≡ f
+  same-frame =
+      let n = lent (j .numbers) units (j .units) mostHeld (places .numbers) e in
+      let t = lent (j .turnovers) units (j .units) mostHeld (places .turnovers) e in
+      let r = lent (j .randoms) units (j .units) mostHeld (places .randoms) e in
+      cc
 
-  panel-numbers : length (panelNumbers f (takeAllGroup (f .turnovers) z) start) ≡ z
-  unfolding panelNumbers
-  panel-numbers = panel-size (λ i. getD (f .numbers) i 0)
+  module _ (told : Answer) (a : answerFrom told ≡ drawAnswer part z start (each 0) (each 0)) where
+    abbrev answer : Drawn
+    answer = record { sampleSize = g .sampleSize; rest = g .rest }
 
-  panel-weights : length (panelWeights f (takeAllGroup (f .turnovers) z) start) ≡ z
-  unfolding panelWeights
-  panel-weights = panel-size (baseWeight (f .turnovers) (takeAllGroup (f .turnovers) z))
+    answered : (x : Answer) → told ≡ x → answerFrom x ≡ judged (frameRefusal f z start) answer
+    unfolding drawAnswer
+    answered x t =
+        sym (ap answerFrom t) ∙ a ∙ ap (λ (y : Frame). drawAnswer y z start (each 0) (each 0)) same-frame
+        ∙ ap (λ (n : ℕ). judged n answer) (room f z start)
 
--- the first z places of a buffer after an accepted draw
-front : (n : ℕ) (news buffer : List ℕ) (z : ℕ) → n ≡ 0 → length news ≡ z → take z (written n news buffer) ≡ news
-front n news buffer z e l = ap (λ (m : ℕ). take z (written m news buffer)) e ∙ take-at news (drop (length news) buffer) z l
+    pub draw-refused : (r : Stepped) (why : Refusal) → told ≡ DrawAnswer.Refused why → r ≡ plainStep j (Refused why)
+        → Steps j (Command.draw z start) r
+    unfolding step onDraw
+    draw-refused r why t p =
+        let number = refused-tells (frameRefusal f z start) (numberOf why) answer (answered _ t) in
+        refused-step j _ (frameRefusal f z start) _ _ r refl why number p
 
--- a step that says the panel of the job it leaves
-made : (next : Job) (drawn : List ℕ) (left : rules.Job) (ns ws : List ℕ) → jobOf next ≡ left → take (next .size) drawn ≡ ns → left .panel ≡ ws → stepFrom (record { job = next; says = Panel; numbers = drawn }) ≡ record { job = left; says = rules.Saying.panelDrawn ns ws }
-made next drawn left ns ws w n p =
-    let panel : take (next .size) (next .panel) ≡ ws = ap (λ (k : rules.Job). k .panel) w ∙ p in
-    cc
-
-module _ (j : Job) (z start : ℕ) (numbers weights : List ℕ) (hn : length numbers ≡ mostPanel) (hw : length weights ≡ mostPanel) where
-  abbrev judged : DrawAnswer
-  judged = drawBy (frameRefusal (jobOf j .units) z start 0) (takeAllGroup (jobOf j .units .turnovers) z)
-
-  by-frame : drawAnswer (jobOf j .units) z start numbers weights ≡ judged
-  unfolding drawAnswer
-  by-frame = ap (λ (n : ℕ). drawBy n (takeAllGroup (jobOf j .units .turnovers) z)) (no-room-needed (jobOf j .units) z start numbers weights hn hw)
-
-  pub draw-refused : (r : Stepped) (why : Refusal) → DrawAnswer.refused (numberOf why) ≡ drawAnswer (jobOf j .units) z start numbers weights → r .job ≡ j → r .says ≡ Refused why → stepFrom r ≡ onDraw (jobOf j) z start
-  unfolding onDraw
-  draw-refused r why a p q =
-      stepped r j (Refused why) p q
-      ∙ sym (by-refused (frameRefusal (jobOf j .units) z start 0) (numberOf why) (takeAllGroup (jobOf j .units .turnovers) z) (jobOf j) z _ _ (a ∙ by-frame))
-
-  pub draw-accepted : (next : Job) (drawn : List ℕ) (a b : ℕ) → DrawAnswer.drawn a b ≡ drawAnswer (jobOf j .units) z start numbers weights → next .size ≡ z → drawn ≡ drawNumbers (jobOf j .units) z start numbers weights → jobOf next ≡ drawnJob (jobOf j) (min z mostPanel) (take z (drawWeights (jobOf j .units) z start numbers weights)) → stepFrom (record { job = next; says = Panel; numbers = drawn }) ≡ onDraw (jobOf j) z start
-  unfolding onDraw drawnJob drawNumbers drawWeights
-  draw-accepted next drawn a b d s ns w =
-      let f = jobOf j .units in
-      let g = takeAllGroup (f .turnovers) z in
-      let e : frameRefusal f z start 0 ≡ 0 = by-drawn (frameRefusal f z start 0) a b g (d ∙ by-frame) in
-      let o : drawRefusal f z start numbers weights ≡ 0 = no-room-needed f z start numbers weights hn hw ∙ e in
-      let few : min z mostPanel ≡ z = min-eq-left (accepted f z start e .units .sizeFew) in
-      let pn = front (drawRefusal f z start numbers weights) (panelNumbers f g start) numbers z o (panel-numbers f z start e) in
-      let pw = front (drawRefusal f z start numbers weights) (panelWeights f g start) weights z o (panel-weights f z start e) in
-      let left : jobOf next ≡ drawnJob (jobOf j) z (panelWeights f g start) =
-      w ∙ ap (λ (m : ℕ). drawnJob (jobOf j) m (take z (drawWeights f z start numbers weights))) few ∙ ap (drawnJob (jobOf j) z) pw in
-      let places = ap (λ (m : ℕ). take m drawn) s ∙ ap (λ (l : List ℕ). take z l) ns ∙ pn in
-      made next drawn (drawnJob (jobOf j) z (panelWeights f g start)) (panelNumbers f g start) (panelWeights f g start) left places refl
-      ∙ ap (λ (m : ℕ). drawStep m (jobOf j) z (panelNumbers f g start) (panelWeights f g start)) (sym e)
+    pub draw-accepted : (n x : ℕ) (left : Job) (ns ws : List ℕ) → told ≡ DrawAnswer.Drawn n x → ns ≡ drawNumbers part z start (each 0) (each 0)
+        → ws ≡ drawWeights part z start (each 0) (each 0) → left ≡ panelHeld j z ws
+        → Steps j (Command.draw z start) (record { job = left; says = Panel; numbers = ns })
+    unfolding step onDraw drawNumbers drawWeights
+    draw-accepted n x left ns ws t d w l =
+        let none = given-tells (frameRefusal f z start) answer (record { sampleSize = n; rest = x }) (answered _ t) .0 in
+        let ok : drawRefusal f z start (each 0) (each 0) ≡ 0 = room f z start ∙ none in
+        let all : (news : List ℕ) → written (drawRefusal f z start (each 0) (each 0)) news (each 0) ≡ written 0 news (each 0) =
+        λ news. ap (λ (m : ℕ). written m news (each 0)) ok in
+        let ns-are = d ∙ ap (λ (y : Frame). drawNumbers y z start (each 0) (each 0)) same-frame ∙ all (panelNumbers f g start) in
+        let ws-are = w ∙ ap (λ (y : Frame). drawWeights y z start (each 0) (each 0)) same-frame ∙ all (panelWeights f g start) in
+        let is-next : left ≡ jobNext j (Command.draw z start) = l ∙ ap (panelHeld j z) ws-are in
+        let shown-ns = front (panelNumbers f g start) (each 0) z (z-numbers f z start none) in
+        let shown-ws = front (panelWeights f g start) (each 0) z (z-weights f z start none) in
+        accepted-step j _ (frameRefusal f z start) _ _ _ refl none
+        (panel-held j z (panelWeights f g start) (z-weights f z start none) (accepted f z start none .units .sizeFew)) is-next (cc) ns-are

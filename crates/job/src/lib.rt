@@ -1,27 +1,27 @@
 // Document 01, "Job stream": what each command does to the job; here the draw of a panel from the frame so far.
 use draw::Answer;
-use jobstate::Job;
-use jobstate::MOST_HELD;
-use jobstate::Saying;
-use jobstate::Stepped;
-use jobstate::said;
-use stream::Command;
-ghost use mathlib.Core.Path.{_≡_};
-ghost use Rattle.rules.specs.Job.{onDraw, step};
-ghost use Rattle.stream.specs.Value.{commandFrom};
-ghost use Rattle.jobstate.specs.State.{jobOf, stepFrom};
+use job_state::Job;
+use job_state::Saying;
+use job_state::Stepped;
+use job_state::said;
+use limits::MOST_HELD;
+use limits::MOST_PANEL;
+use stream_read::Command;
+ghost use Rattle.rules.specs.Stream as rules;
+ghost use Rattle.stream_read.specs.Value.{commandFrom};
+ghost use Rattle.job_state.specs.Steps.{Steps};
 
 // 2: a panel of the frame so far.
 pub fn on_draw(job: Job, size: u8, start: u32) -> Stepped
-    ensures { λ r. ⌜ stepFrom r ≡ onDraw (jobOf job) size start ⌝ }
+    ensures { λ r. ⌜ Steps job (rules.Command.draw size start) r ⌝ }
 {
-    let units = jobstate::within(job.units, MOST_HELD);
+    let units = job_state::within(job.units, MOST_HELD);
     let z = size as usize;
     let numbers = job.numbers;
     let turnovers = job.turnovers;
     let randoms = job.randoms;
-    let mut panel = jobstate::places(0);
-    let mut weights = jobstate::no_weights();
+    let mut panel = [0u32; MOST_PANEL];
+    let mut weights = [0u64; MOST_PANEL];
     let answer = draw::draw(
         &numbers[..units],
         &turnovers[..units],
@@ -34,7 +34,7 @@ pub fn on_draw(job: Job, size: u8, start: u32) -> Stepped
     match answer {
         Answer::Refused(why) => said(job, Saying::Refused(why)),
         Answer::Drawn { n: _, rest: _ } => Stepped {
-            job: jobstate::drawn(job, z, weights),
+            job: job_state::drawn(job, z, weights),
             says: Saying::Panel,
             numbers: panel,
         },
@@ -43,19 +43,19 @@ pub fn on_draw(job: Job, size: u8, start: u32) -> Stepped
 
 // What a command does to the job and says. A refused command leaves the job as it was.
 pub fn step(job: Job, command: Command) -> Stepped
-    ensures { λ r. ⌜ stepFrom r ≡ step (jobOf job) (commandFrom command) ⌝ }
+    ensures { λ r. ⌜ Steps job (commandFrom command) r ⌝ }
 {
     match command {
         Command::Unit {
             number,
             turnover,
             random,
-        } => jobgiven::on_unit(job, number, turnover, random),
+        } => job_given::on_unit(job, number, turnover, random),
         Command::Draw { size, start } => on_draw(job, size, start),
-        Command::Share { place, share } => jobgiven::on_share(job, place, share),
-        Command::Relative { place, relative } => jobgiven::on_relative(job, place, relative),
-        Command::Open { start } => jobcalls::on_open(job, start),
-        Command::Quarter => jobcalls::on_quarter(job),
-        Command::Close => jobcalls::on_close(job),
+        Command::Share { place, share } => job_given::on_share(job, place, share),
+        Command::Relative { place, relative } => job_given::on_relative(job, place, relative),
+        Command::Open { start } => job_calls::on_open(job, start),
+        Command::Quarter => job_calls::on_quarter(job),
+        Command::Close => job_calls::on_close(job),
     }
 }

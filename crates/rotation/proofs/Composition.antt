@@ -1,93 +1,105 @@
 -- A rotation that refusals 1 to 7 let pass, put together from what its callees ensure: the group, the members, the first step, and the
 -- leavers at its start are those of the definition.
-use mathlib.Core.Path.{_≡_, sym, ap, _∙_, subst}
-use mathlib.Core.Bool.{true}
+use mathlib.Core.Path.{_≡_, refl, sym, _∙_}
+use mathlib.Core.Bool.{Bool}
 use mathlib.Core.List.{List, []}
 use Prim.Native.Nat.{ℕ, _≤_, _<_}
 use native.Mathlib.Omega.{arith}
+use lib.Dec.{leb}
 use lib.ListN.{length, getD}
+use borrow.Author.Tests.{le-leb, lt-leb}
 use Rattle.rules.specs.Limits.{steps}
-use Rattle.rules.specs.Lists.{rising}
+use Rattle.rules.specs.Refusals.{Judged, refuse, _then_, written}
 use Rattle.rules.specs.Selection.{every}
 use Rattle.rules.specs.TakeAll.{Frame, frame, takeAllGroup}
-use Rattle.rules.specs.TakeAll.{Group as RulesGroup}
-use Rattle.rules.specs.Rotation.{member, required, startAt, leaves, leastStep, leavers, refused, rotated, rotationAnswer, rotationLeavers}
-use Rattle.refusals.specs.declared.Refusal.the-variants.{NoStep}
-use Rattle.frame.proofs.Refusals.{passed}
+use Rattle.rules.specs.Draw.{frameRefusal}
+use Rattle.rules.specs.Rotation.{member, required, startAt, leaves, leastStep, leavers, oldPanelRefusal, rotationRefusal, rotationAnswer, rotationLeavers}
+use Rattle.rules.proofs.Refusals.{then-none, then-goes, then-assoc}
+use Rattle.refusals.specs.declared.Refusal.{Refusal}
+use Rattle.refusals.specs.Number.{numberOf}
+use Rattle.refusals.proofs.Numbers.{number-is-suc}
+use Rattle.refusals.proofs.Answers.{stops-by}
 use Rattle.frame.proofs.Accepted.{Accepted, accepted}
 use Rattle.selection.proofs.Sums.{count-every, count-le, listed-length}
 use Rattle.group.specs.declared.Group.{Group}
 use Rattle.group.specs.Group.{rulesGroup, IsGroup}
-use Rattle.draw.proofs.Accepted.{group-is}
-use Rattle.members.specs.declared.Places.{Places}
-use Rattle.members.specs.Places.{Holding, PlacesOf}
-use Rattle.oldpanel.specs.Judge.{earlyRefusal}
-use Rattle.leavers.specs.Leaving.{memberLeaves, firstStep, inPlaceOrder}
-use Rattle.leavers.specs.Search.{Within}
-use Rattle.leavers.specs.Buffer.{Written}
-use Rattle.oldpanel.proofs.Refusals.{OldPassed, early-frame, early-old}
-use Rattle.rotation.proofs.Refusals.{refused-late, not-refused, answer-refused, leavers-refused, answer-given, leavers-given}
+use Rattle.group.proofs.Accepted.{group-is}
+use Rattle.draw_terms.specs.Gaps.{Gaps}
+use Rattle.draw_terms.proofs.Accepted.{ready}
+use Rattle.rotation_members.specs.declared.Places.{Places}
+use Rattle.rotation_members.specs.Places.{PlacesOf}
+use Rattle.rotation_members.proofs.Held.{hold-most, place-low}
+use Rattle.rotation_judge.proofs.Accepted.{OldAccepted, old-accepted}
+use Rattle.rotation_step.specs.Leaving.{LeaversOf, memberLeaves, firstStep, inPlaceOrder}
+use Rattle.rotation_step.specs.Search.{Within, Searched}
+use Rattle.rotation.specs.Answer.{leaversOver}
 use Rattle.rotation.proofs.Members.{first-is, leavers-held, leavers-are}
-use Rattle.rotation.proofs.Ready.{within}
+
+within : (mark : ℕ → Bool) (n : ℕ) (m : Places) → PlacesOf mark n m → Within n m
+within mark n m p = record { most = hold-most mark (λ i. i) n m p; low = λ j l. place-low mark n m p j l }
 
 in-order-length : (ns : List ℕ) (r : Places) → r .count ≡ length (inPlaceOrder ns r)
 unfolding inPlaceOrder
 in-order-length ns r = sym (listed-length every (λ j. getD ns (getD (r .places) j 0) 0) (r .count) ∙ count-every (r .count))
 
-module _ (ns ts rs : List ℕ) (z old : ℕ) (panel : List ℕ) (fraction : ℕ) (buffer : List ℕ) (none : earlyRefusal (frame ns ts rs) z old panel fraction (length buffer) 0 ≡ 0) where
+-- one of 1 to 7 stops it
+pub refused-early :
+    (f : Frame) (z old : ℕ) (panel : List ℕ) (fraction : ℕ) (buffer : List ℕ) (why : Refusal)
+    → numberOf why ≡ (frameRefusal f z old then oldPanelRefusal panel fraction buffer)
+    → (Judged.refused (numberOf why) ≡ rotationAnswer f z old panel fraction buffer) × (buffer ≡ leaversOver f z old panel fraction buffer)
+unfolding rotationAnswer rotationLeavers rotationRefusal
+refused-early f z old panel fraction buffer why e =
+    let stopped : numberOf why ≡ rotationRefusal f z old panel fraction buffer = stops-by why _ _ e ∙ then-assoc _ _ _ in
+    rw (← stopped, number-is-suc why) (refl, refl)
+
+module _ (ns ts rs : List ℕ) (z old : ℕ) (panel : List ℕ) (fraction : ℕ) (buffer : List ℕ)
+    (none : (frameRefusal (frame ns ts rs) z old then oldPanelRefusal panel fraction buffer) ≡ 0) where
   abbrev f : Frame
   f = frame ns ts rs
 
-  pub frame-accepted : Accepted f z old
-  frame-accepted = accepted f z old (early-frame f z old panel fraction (length buffer) none)
+  pub frame-ok : Accepted f z old
+  frame-ok = accepted f z old (then-none _ _ none .0)
 
-  pub numbers-rise : rising ns ≡ true
-  numbers-rise = passed f z old (early-frame f z old panel fraction (length buffer) none) .numbers
+  pub old-ok : OldAccepted panel fraction buffer
+  old-ok = old-accepted panel fraction buffer (then-none _ _ none .1)
 
-  pub old-accepted : OldPassed panel fraction (length buffer)
-  old-accepted = early-old f z old panel fraction (length buffer) none
+  -- only 8 is left
+  left-over : rotationRefusal f z old panel fraction buffer ≡ refuse (leb steps (leastStep f (takeAllGroup ts z) old panel fraction)) 8
+  unfolding rotationRefusal
+  left-over = sym (then-assoc _ _ _) ∙ then-goes _ _ none
 
   module _ (g : Group) (is : IsGroup ts z g) (m : Places) (h : PlacesOf (member (frame ns ts []) (rulesGroup ts g) panel) (length ts) m) where
+    pub searched : (gs : List ℕ) → Gaps ts g gs → Searched ts rs gs g m
+    searched gs w = record { ready = λ start low. ready f z old start g frame-ok is low; gaps = w; held = within _ (length ts) m h }
+
     -- those who leave under a start are units of the frame, and no more than the members
-    module _ (start : ℕ) (r : Places) (l : Holding (memberLeaves (frame [] ts rs) (rulesGroup ts g) (m .places) start) (λ j. getD (m .places) j 0) (m .count) r) where
+    module _ (start : ℕ) (r : Places) (l : LeaversOf (frame [] ts rs) (rulesGroup ts g) m start r) where
       left : PlacesOf (leaves f (rulesGroup ts g) panel start) (length ts) r
       left = leavers-held ns ts rs (rulesGroup ts g) panel m h start r l
 
       pub left-within : Within (length ns) r
-      left-within = subst (λ (n : ℕ). Within n r) (sym (frame-accepted .numbersLength)) (within (leaves f (rulesGroup ts g) panel start) (length ts) r left)
+      left-within = rw (frame-ok .numbersLength) (within _ (length ts) r left)
 
       pub left-fewer : r .count ≤ m .count
       left-fewer = omega (arith, l .many, count-le (memberLeaves (frame [] ts rs) (rulesGroup ts g) (m .places) start) (m .count))
 
-    module _ (k : ℕ) (first : k ≡ firstStep (frame [] ts rs) (rulesGroup ts g) m old (required fraction (m .count))) where
-      step-is : k ≡ leastStep f (takeAllGroup ts z) old panel fraction
-      step-is =
-          first
-          ∙ first-is ns ts rs (rulesGroup ts g) panel m h old fraction
-          ∙ ap (λ (r : RulesGroup). leastStep f r old panel fraction) (group-is ts z g is)
+    module _ (k need : ℕ) (first : k ≡ firstStep (frame [] ts rs) (rulesGroup ts g) m old need) (n : need ≡ required fraction (m .count)) where
+      step-is : leastStep f (takeAllGroup ts z) old panel fraction ≡ k
+      step-is = rw (← group-is ts z g is, first, n) (sym (first-is ns ts rs (rulesGroup ts g) panel m h old fraction))
 
       -- no step is enough
-      pub turn-refused : steps ≤ k → (refused 8 ≡ rotationAnswer f z old panel fraction buffer) × Written (rotationLeavers f z old panel fraction buffer) buffer buffer
-      turn-refused l =
-          let late = refused-late f z old panel fraction buffer none (subst (λ (n : ℕ). steps ≤ n) step-is l) in (
-            sym (answer-refused f z old panel fraction buffer NoStep late),
-            rw (leavers-refused f z old panel fraction buffer NoStep late),
-          )
+      pub turn-refused : steps ≤ k → (Judged.refused 8 ≡ rotationAnswer f z old panel fraction buffer) × (buffer ≡ leaversOver f z old panel fraction buffer)
+      unfolding rotationAnswer rotationLeavers refuse
+      turn-refused l = rw (left-over, step-is, le-leb steps k l) (refl, refl)
 
       -- step k is the first that is enough, and r are those who leave at its start
-      module _ (start : ℕ) (s : start ≡ startAt old k) (r : Places) (l : Holding (memberLeaves (frame [] ts rs) (rulesGroup ts g) (m .places) start) (λ j. getD (m .places) j 0) (m .count) r) where
-        leavers-at : inPlaceOrder ns r ≡ leavers f (takeAllGroup ts z) panel (startAt old (leastStep f (takeAllGroup ts z) old panel fraction))
-        leavers-at =
-            leavers-are ns ts rs (rulesGroup ts g) panel m h start r (left start r l)
-            ∙ ap (λ (w : RulesGroup). leavers f w panel start) (group-is ts z g is)
-            ∙ ap (leavers f (takeAllGroup ts z) panel) (s ∙ ap (startAt old) step-is)
+      module _ (start : ℕ) (s : start ≡ startAt old k) (r : Places) (l : LeaversOf (frame [] ts rs) (rulesGroup ts g) m start r) where
+        leavers-at : leavers f (takeAllGroup ts z) panel (startAt old k) ≡ inPlaceOrder ns r
+        leavers-at = rw (← group-is ts z g is, ← s) (sym (leavers-are ns ts rs (rulesGroup ts g) panel m h start r (left start r l)))
 
-        pub turn-given : k < steps → (after : List ℕ) → Written (inPlaceOrder ns r) buffer after → (rotated k start (r .count) ≡ rotationAnswer f z old panel fraction buffer) × Written (rotationLeavers f z old panel fraction buffer) buffer after
-        turn-given low after w =
-            let given = not-refused f z old panel fraction buffer none (subst (λ (i : ℕ). i < steps) step-is low) in (
-              rotated-by step-is (s ∙ ap (startAt old) step-is) (in-order-length ns r ∙ ap length leavers-at) ∙ sym (answer-given f z old panel fraction buffer given),
-              rw (leavers-given f z old panel fraction buffer given) (rw leavers-at at w),
-            )
-          where
-            rotated-by : {a a′ b b′ c c′ : ℕ} → a ≡ a′ → b ≡ b′ → c ≡ c′ → rotated a b c ≡ rotated a′ b′ c′
-            rotated-by p q r = cc
+        pub turn-given :
+            k < steps → (after : List ℕ) → after ≡ written 0 (inPlaceOrder ns r) buffer
+            → (Judged.given (record { step = k; start = start; leaving = r .count }) ≡ rotationAnswer f z old panel fraction buffer)
+            × (after ≡ leaversOver f z old panel fraction buffer)
+        unfolding rotationAnswer rotationLeavers refuse
+        turn-given low after w = rw (left-over, step-is, lt-leb steps k low, leavers-at, ← s) (rw (← in-order-length ns r), w)

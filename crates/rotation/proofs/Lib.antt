@@ -1,4 +1,2 @@
-pub mod Refusals
 pub mod Members
-pub mod Ready
 pub mod Composition

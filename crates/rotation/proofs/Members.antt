@@ -11,10 +11,10 @@ use Rattle.rules.specs.TakeAll.{Frame, Group, frame}
 use Rattle.rules.specs.Draw.{sampledBy, keyBelow}
 use Rattle.rules.specs.Rotation.{member, members, required, startAt, leaves, suffices, leastStep, leavers}
 use Rattle.selection.proofs.Least.{least-same}
-use Rattle.members.specs.declared.Places.{Places}
-use Rattle.members.specs.Places.{Holding, PlacesOf}
-use Rattle.members.proofs.Held.{count-held, listed-all, holding-both}
-use Rattle.leavers.specs.Leaving.{memberLeaves, leaving, enoughLeave, firstStep, inPlaceOrder}
+use Rattle.rotation_members.specs.declared.Places.{Places}
+use Rattle.rotation_members.specs.Places.{PlacesOf}
+use Rattle.rotation_members.proofs.Held.{count-held, listed-all, holding-both}
+use Rattle.rotation_step.specs.Leaving.{LeaversOf, memberLeaves, leaving, enoughLeave, firstStep, inPlaceOrder}
 
 module _ (ns ts rs : List ℕ) (g : Group) (panel : List ℕ) (m : Places) (h : PlacesOf (member (frame ns ts []) g panel) (length ts) m) where
   -- the whole frame; members read no random number of it, keys no unit number
@@ -30,7 +30,7 @@ module _ (ns ts rs : List ℕ) (g : Group) (panel : List ℕ) (m : Places) (h : 
   leaving-is start = count-held (member (frame ns ts []) g panel) (λ i. not (sampledBy f g start i)) (length ts) m h
 
   -- the members that leave, held in their turn, are the leavers, and so are their numbers
-  pub leavers-held : (start : ℕ) (r : Places) → Holding (memberLeaves (frame [] ts rs) g (m .places) start) (λ j. getD (m .places) j 0) (m .count) r → PlacesOf (leaves f g panel start) (length ts) r
+  pub leavers-held : (start : ℕ) (r : Places) → LeaversOf (frame [] ts rs) g m start r → PlacesOf (leaves f g panel start) (length ts) r
   unfolding memberLeaves leaves member sampledBy keyBelow
   leavers-held start r l = holding-both (member (frame ns ts []) g panel) (λ i. not (sampledBy f g start i)) (length ts) m h r l
 

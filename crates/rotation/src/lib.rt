@@ -1,20 +1,19 @@
 // Rotation (document 01, "Rotation"): the smallest step of the start at which enough members leave the panel, and who leaves. The
-// take-all group, the units' gaps and the members do not depend on the start and are found once; what a step does is crate `leavers`.
-use frame::MOST_FRAME;
-use leavers::STEPS;
-use oldpanel::FRACTION_SCALE;
+// take-all group, the units' gaps and the members do not depend on the start and are found once; what a step does is crate `rotation_step`.
+use draw_terms::gaps;
+use limits::FRACTION_SCALE;
+use limits::MOST_FRAME;
+use limits::STEPS;
 use refusals::Refusal;
 use refusals::Verdict;
-use terms::gaps;
 ghost use mathlib.Core.Path.{_≡_};
 ghost use Prim.Native.Nat.{_≤_};
-ghost use lib.ListN.{length};
 ghost use Rattle.rules.specs.Limits.{mostPanel, fractionScale};
+ghost use Rattle.rules.specs.Refusals.{_then_};
 ghost use Rattle.rules.specs.TakeAll.{frame};
-ghost use Rattle.rules.specs.Rotation.{required, rotationAnswer, rotationLeavers, Holds};
-ghost use Rattle.oldpanel.specs.Judge.{earlyRefusal};
-ghost use Rattle.leavers.specs.Buffer.{Written};
-ghost use Rattle.rotation.specs.Answer.{answerOf};
+ghost use Rattle.rules.specs.Draw.{frameRefusal};
+ghost use Rattle.rules.specs.Rotation.{required, oldPanelRefusal, rotationAnswer, rotationLeavers, Holds};
+ghost use Rattle.rotation.specs.Answer.{answerFrom, leaversOver};
 
 pub enum Answer {
     Rotated { k: u32, start: u32, count: usize },
@@ -42,22 +41,22 @@ fn turn(
     fraction: u32,
     leavers: &mut [u32],
 ) -> Answer
-    requires { ⌜ earlyRefusal (frame (now numbers) (now turnovers) (now randoms)) z old (now panel) fraction (length (now leavers)) 0 ≡ 0 ⌝ }
-    ensures { λ r. ⌜ answerOf r ≡ rotationAnswer (frame (now (numbers .entry)) (now (turnovers .entry)) (now (randoms .entry))) z old (now (panel .entry)) fraction (now (leavers .entry)) ⌝ }
-    ensures { λ _. ⌜ Written (rotationLeavers (frame (now (numbers .entry)) (now (turnovers .entry)) (now (randoms .entry))) z old (now (panel .entry)) fraction (now (leavers .entry))) (now (leavers .entry)) (now (leavers .exit)) ⌝ }
+    requires { ⌜ (frameRefusal (frame (now numbers) (now turnovers) (now randoms)) z old then oldPanelRefusal (now panel) fraction (now leavers)) ≡ 0 ⌝ }
+    ensures { λ r. ⌜ answerFrom r ≡ rotationAnswer (frame (now (numbers .entry)) (now (turnovers .entry)) (now (randoms .entry))) z old (now (panel .entry)) fraction (now (leavers .entry)) ⌝ }
+    ensures { λ _. ⌜ now (leavers .exit) ≡ leaversOver (frame (now (numbers .entry)) (now (turnovers .entry)) (now (randoms .entry))) z old (now (panel .entry)) fraction (now (leavers .entry)) ⌝ }
 {
     let g = group::find_group(turnovers, z);
     let mut gaps = [0u64; MOST_FRAME];
     gaps::fill(turnovers, g, &mut gaps);
-    let members = members::members(numbers, turnovers, panel, g);
+    let members = rotation_members::members(numbers, turnovers, panel, g);
     let need = required(fraction, members.count);
-    let k = leavers::first_step(turnovers, randoms, &gaps, g, members, old, need);
+    let k = rotation_step::first_step(turnovers, randoms, &gaps, g, members, old, need);
     if STEPS <= k {
         return Answer::Refused(Refusal::NoStep);
     }
-    let start = leavers::start_at(old, k);
-    let left = leavers::find_leavers(turnovers, randoms, &gaps, g, members, start);
-    leavers::write_numbers(numbers, left, leavers);
+    let start = rotation_step::start_at(old, k);
+    let left = rotation_step::find_leavers(turnovers, randoms, &gaps, g, members, start);
+    rotation_step::write_numbers(numbers, left, leavers);
     Answer::Rotated {
         k,
         start,
@@ -77,11 +76,21 @@ pub fn rotate(
     fraction: u32,
     leavers: &mut [u32],
 ) -> Answer
-    ensures { λ r. ⌜ answerOf r ≡ rotationAnswer (frame (now (numbers .entry)) (now (turnovers .entry)) (now (randoms .entry))) z old (now (panel .entry)) fraction (now (leavers .entry)) ⌝ }
-    ensures { λ _. ⌜ Holds (rotationLeavers (frame (now (numbers .entry)) (now (turnovers .entry)) (now (randoms .entry))) z old (now (panel .entry)) fraction (now (leavers .entry))) (now (leavers .entry)) (now (leavers .exit)) ⌝ }
+    ensures { λ r. ⌜ answerFrom r ≡ rotationAnswer (frame (now (numbers .entry)) (now (turnovers .entry)) (now (randoms .entry))) z old (now (panel .entry)) fraction (now (leavers .entry)) ⌝ }
+    ensures { λ _.
+        ⌜ Holds (rotationLeavers (frame (now (numbers .entry)) (now (turnovers .entry)) (now (randoms .entry))) z old (now (panel .entry)) fraction (now (leavers .entry)))
+        (now (leavers .entry)) (now (leavers .exit)) ⌝ }
 {
-    let room = leavers.len();
-    let verdict = oldpanel::judge(numbers, turnovers, randoms, z, old, panel, fraction, room);
+    let verdict = rotation_judge::judge(
+        numbers,
+        turnovers,
+        randoms,
+        z,
+        old,
+        panel,
+        fraction,
+        leavers,
+    );
     match verdict {
         Verdict::Refused(why) => Answer::Refused(why),
         Verdict::Accepted => turn(

@@ -1,11 +1,13 @@
 -- What demand 3 and the leavers' buffer ask and allow, shown at the border by examples: these are relations, which the tests cannot
 -- compute as they compute the other definitions.
 use mathlib.Core.Path.{_≡_, refl}
-use Prim.Native.Nat.{ℕ, suc}
+use Prim.Native.Nat.{ℕ, suc, _*_}
 use mathlib.Core.List.{List, [], _∷_}
 use native.Mathlib.Omega.{arith}
-use Rattle.rules.specs.Chain.{Call, Answer}
-use Rattle.rules.specs.Direct.{Direct, Within, AllWithin, directAfter, numerator, denominator}
+use Rattle.rules.specs.Lists.{sum, products, scaled}
+use Rattle.rules.specs.Refusals.{Judged}
+use Rattle.rules.specs.Chain.{Call}
+use Rattle.rules.specs.Direct.{Direct, Within, AllWithin, directOpen, directAfter, numerator, denominator}
 use Rattle.rules.specs.Rotation.{Holds, times}
 
 -- with D = 10,000,000 the first call may be off by 22, the second by 33
@@ -41,16 +43,25 @@ same-ratio = record { defined = omega arith; notAbove = omega arith; notBelow = 
 pub undefined-outside : Within 0 0 0 1 → ⊥
 undefined-outside w = omega (arith, w .defined)
 
+-- "each e becomes e × p / 10,000, without rounding": the exact weight 1,000,001 × 9,999 × 10,001 is no multiple of 10,000, and D is that of 10,001
+-- and then 10,000 on 1,000,000,000 to the last digit
+abbrev unrounded : Direct
+unrounded = directAfter (directOpen (1000001 ∷ []) (9999 ∷ []) (10001 ∷ []) 1000000000) (Call.close (10001 ∷ []))
+
+pub moved-exactly : numerator unrounded (10000 ∷ []) ≡ 1000100000 * denominator unrounded
+unfolding directOpen numerator denominator sum products scaled
+moved-exactly = refl
+
 -- "A refused call has no D and changes nothing": the call after it is judged by the same weights and the same m
 pub refused-passed :
     (d : Direct) (n f : ℕ) (ps qs : List ℕ) →
-    AllWithin d (Call.close ps ∷ Call.quarter qs ∷ []) (Answer.refused n ∷ Answer.figure f ∷ []) → Within f (numerator d qs) (denominator d) (d .m)
+    AllWithin d (Call.close ps ∷ Call.quarter qs ∷ []) (Judged.refused n ∷ Judged.given f ∷ []) → Within f (numerator d qs) (denominator d) (d .m)
 refused-passed d n f ps qs all = all .0
 
 -- a close "takes m as it stands", and the call after it the moved weights and one more
 pub close-counted :
     (d : Direct) (f h : ℕ) (ps qs : List ℕ) →
-    AllWithin d (Call.close ps ∷ Call.quarter qs ∷ []) (Answer.figure f ∷ Answer.figure h ∷ []) →
+    AllWithin d (Call.close ps ∷ Call.quarter qs ∷ []) (Judged.given f ∷ Judged.given h ∷ []) →
     Within f (numerator d ps) (denominator d) (d .m) × Within h (numerator (directAfter d (Call.close ps)) qs) (denominator (directAfter d (Call.close ps))) (suc (d .m))
 close-counted d f h ps qs all = (all .0, all .1 .0)
 

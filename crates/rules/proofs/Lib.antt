@@ -1,3 +1,6 @@
 pub mod Tests
+pub mod Refusals
+pub mod Lists
+pub mod Chains
 pub mod Reference
 pub mod Border

@@ -2,19 +2,23 @@
 -- K7 and K8 go through the job on the listing's bytes, since only that reads, draws, opens, closes and prints in one.
 use mathlib.Core.Path.{_≡_, refl}
 use Prim.Native.Nat.{ℕ, _*_}
+use mathlib.Core.Bool.{true}
 use mathlib.Core.List.{List, [], _∷_}
-use Rattle.rules.specs.Tests.{_or_, _and_, outside, refuse}
+use lib.Dec.{ltb}
+use Rattle.rules.specs.Tests.{_or_, _and_, outside}
+use Rattle.rules.specs.Refusals.{Judged, refuse, _then_}
 use Rattle.rules.specs.Lists.{sum, products, scaled, anyOf, anyPair, risesFrom, rising, elem}
 use Rattle.rules.specs.Selection.{sumOf, count, byKey, rank, firsts, listed, leastFrom}
-use Rattle.rules.specs.TakeAll.{Frame, TakeAllAnswer, frame, moreTurnover, larger, largest, restWithout, reachesRest, fits, takeAllSize, restTurnover, takeAllGroup, baseWeight, badTurnovers, badSize, badCount, takeAllRefusal, takeAllAnswer, takeAllMarks}
-use Rattle.rules.specs.Draw.{DrawAnswer, shifted, keyNumerator, keyDenominator, fractionBelow, keyBelow, sampledBy, drawnBy, panelNumbers, panelWeights, badLists, badRandom, frameRefusal, drawRefusal, drawAnswer, drawNumbers, drawWeights}
-use Rattle.rules.specs.Rotation.{RotationAnswer, member, members, required, startAt, leaves, suffices, leastStep, leavers, badOldPanel, rotationRefusal, rotationAnswer, rotationLeavers}
-use Rattle.rules.specs.Chain.{Chain, Call, Answer, held, badIndex, badRelative, badWeight, badUnits, badOpenLists, badBase, badShares, openRefusal, openRecord, openAnswer, link, figureAt, broken, callRefusal, lateRefusal, refusalOf, answerOf, after}
+use Rattle.rules.specs.TakeAll.{Frame, Taken, frame, moreTurnover, larger, largest, restWithout, reachesRest, fits, takeAllSize, restTurnover, takeAllGroup, baseWeight, badTurnovers, badSize, badCount, takeAllRefusal, takeAllAnswer, takeAllMarks}
+use Rattle.rules.specs.Draw.{Drawn, shifted, keyNumerator, keyDenominator, fractionBelow, keyBelow, sampledBy, drawnBy, panelNumbers, panelWeights, badLists, badRandom, frameRefusal, drawRefusal, drawAnswer, drawNumbers, drawWeights}
+use Rattle.rules.specs.Rotation.{Rotated, member, members, required, startAt, leaves, suffices, leastStep, leavers, badOldPanel, oldPanelRefusal, rotationRefusal, rotationAnswer, rotationLeavers}
+use Rattle.rules.specs.Chain.{Chain, Call, held, badIndex, badRelative, badWeight, badUnits, badOpenLists, badBase, badShares, openInputRefusal, weightRefusal, openRefusal, openRecord, link, figureAt, broken, callInputRefusal, figureRefusal, callRefusal, callAnswer}
 use Rattle.rules.specs.Direct.{Direct, directOpen, directAfter, numerator, denominator}
-use Rattle.rules.specs.Total.{TotalAnswer, badSectors, totalOf, totalAnswer}
-use Rattle.rules.specs.Stream.{bigEndian, widthOf, commandOf, frontRefusal, reading, restOf}
-use Rattle.rules.specs.Lines.{digitsOn, decimalOn, lineOf, lineOf2, panelLines}
-use Rattle.rules.specs.Job.{emptyJob, onUnit, drawnJob, onDraw, onShare, onRelative, withChain, onOpen, step, printed, output}
+use Rattle.rules.specs.Total.{badSectors, totalOf, totalAnswer}
+use Rattle.rules.specs.Stream.{bigEndian, operandsOf, widthOf, commandOf, readingRefusal, reading, restOf}
+use Rattle.rules.specs.Decimal.{digitsOn, decimalOn}
+use Rattle.rules.specs.Lines.{lineOf, lineOf2, panelLines}
+use Rattle.rules.specs.Job.{emptyJob, withUnit, onUnit, withPanel, onDraw, placeRefusal, withShare, onShare, withRelative, onRelative, withChain, onOpen, step, printed, output}
 
 -- "Frame A: units 11 to 15, turnovers 70, 10, 8, 7, 5 million", with the R that K1 and K2 give
 abbrev turnoversA : List ℕ
@@ -23,9 +27,12 @@ turnoversA = 70000000 ∷ 10000000 ∷ 8000000 ∷ 7000000 ∷ 5000000 ∷ []
 abbrev frameA : ℕ → Frame
 frameA lastRandom = frame (11 ∷ 12 ∷ 13 ∷ 14 ∷ 15 ∷ []) turnoversA (300000 ∷ 500000 ∷ 200000 ∷ 900000 ∷ lastRandom ∷ [])
 
--- a buffer of four places that holds something else
+-- a buffer of four places, and a list of six marks
 abbrev buffer : List ℕ
-buffer = 1 ∷ 2 ∷ 3 ∷ 4 ∷ []
+buffer = 9 ∷ 9 ∷ 9 ∷ 8 ∷ []
+
+abbrev marks : List ℕ
+marks = 9 ∷ 9 ∷ 9 ∷ 9 ∷ 9 ∷ 9 ∷ []
 
 -- the listing's job stream, command by command
 abbrev streamA : List ℕ
@@ -64,46 +71,69 @@ directA =
 abbrev oneUnit : Chain
 oneUnit = record { weights = 1000000 ∷ []; units = 1; index = 1000000000; closes = 0 }
 
+-- an answer that is given: q, n and X of a take-all group; n and X of a draw; k, the new start and the leavers' count of a rotation
+abbrev taken : ℕ → ℕ → ℕ → Judged Taken
+taken q n x = Judged.given (record { size = q; sampleSize = n; rest = x })
+
+abbrev drawn : ℕ → ℕ → Judged Drawn
+drawn n x = Judged.given (record { sampleSize = n; rest = x })
+
+abbrev rotated : ℕ → ℕ → ℕ → Judged Rotated
+rotated k start count = Judged.given (record { step = k; start = start; leaving = count })
+
+-- "units 1 to 3, turnover 10 and R 500,000 each"
+abbrev frameTied : Frame
+frameTied = frame (1 ∷ 2 ∷ 3 ∷ []) (10 ∷ 10 ∷ 10 ∷ []) (500000 ∷ 500000 ∷ 500000 ∷ [])
+
+-- Buffers hold 9 and 8, which no case answers: a refused call would leave them, and so fail its case.
 pub record ReferenceTable : Type 0 where
   -- K1: q = 1, n = 2, X = 30 million; drawn 11, 13, 15, with the listing's weights
-  k1-group : takeAllAnswer turnoversA 3 (9 ∷ 9 ∷ 9 ∷ 9 ∷ 9 ∷ 9 ∷ []) ≡ TakeAllAnswer.taken 1 2 30000000
-  k1-marks : takeAllMarks turnoversA 3 (9 ∷ 9 ∷ 9 ∷ 9 ∷ 9 ∷ 9 ∷ []) ≡ 1 ∷ 0 ∷ 0 ∷ 0 ∷ 0 ∷ 9 ∷ []
-  k1-answer : drawAnswer (frameA 100000) 3 0 buffer buffer ≡ DrawAnswer.drawn 2 30000000
-  k1-numbers : drawNumbers (frameA 100000) 3 0 buffer buffer ≡ 11 ∷ 13 ∷ 15 ∷ 4 ∷ []
-  k1-weights : drawWeights (frameA 100000) 3 0 buffer buffer ≡ 140000000 ∷ 30000000 ∷ 30000000 ∷ 4 ∷ []
+  k1-group : takeAllAnswer turnoversA 3 marks ≡ taken 1 2 30000000
+  k1-marks : takeAllMarks turnoversA 3 marks ≡ 1 ∷ 0 ∷ 0 ∷ 0 ∷ 0 ∷ 9 ∷ []
+  k1-answer : drawAnswer (frameA 100000) 3 0 buffer buffer ≡ drawn 2 30000000
+  k1-numbers : drawNumbers (frameA 100000) 3 0 buffer buffer ≡ 11 ∷ 13 ∷ 15 ∷ 8 ∷ []
+  k1-weights : drawWeights (frameA 100000) 3 0 buffer buffer ≡ 140000000 ∷ 30000000 ∷ 30000000 ∷ 8 ∷ []
   -- K2: R of 15 set to 220,000
-  k2 : drawNumbers (frameA 220000) 3 0 buffer buffer ≡ 11 ∷ 12 ∷ 13 ∷ 4 ∷ []
-  -- K3: 20, 10, 10, z = 2: the first is take-all; K4: 19, 11, 10: none is; K5: one unit, z = 1: cut-off
-  k3 : takeAllAnswer (20 ∷ 10 ∷ 10 ∷ []) 2 buffer ≡ TakeAllAnswer.taken 1 1 20
-  k4 : takeAllAnswer (19 ∷ 11 ∷ 10 ∷ []) 2 buffer ≡ TakeAllAnswer.taken 0 2 40
-  k5 : takeAllAnswer (5 ∷ []) 1 buffer ≡ TakeAllAnswer.taken 1 0 0
-  k5-weight : drawWeights (frame (7 ∷ []) (5 ∷ []) (0 ∷ [])) 1 0 buffer buffer ≡ 5 ∷ 2 ∷ 3 ∷ 4 ∷ []
+  k2-answer : drawAnswer (frameA 220000) 3 0 buffer buffer ≡ drawn 2 30000000
+  k2-numbers : drawNumbers (frameA 220000) 3 0 buffer buffer ≡ 11 ∷ 12 ∷ 13 ∷ 8 ∷ []
+  -- K3: 20, 10, 10, z = 2: the first is take-all
+  k3-group : takeAllAnswer (20 ∷ 10 ∷ 10 ∷ []) 2 marks ≡ taken 1 1 20
+  k3-marks : takeAllMarks (20 ∷ 10 ∷ 10 ∷ []) 2 marks ≡ 1 ∷ 0 ∷ 0 ∷ 9 ∷ 9 ∷ 9 ∷ []
+  -- K4: 19, 11, 10: none is
+  k4-group : takeAllAnswer (19 ∷ 11 ∷ 10 ∷ []) 2 marks ≡ taken 0 2 40
+  k4-marks : takeAllMarks (19 ∷ 11 ∷ 10 ∷ []) 2 marks ≡ 0 ∷ 0 ∷ 0 ∷ 9 ∷ 9 ∷ 9 ∷ []
+  -- K5: one unit, z = 1: cut-off
+  k5-group : takeAllAnswer (5 ∷ []) 1 marks ≡ taken 1 0 0
+  k5-marks : takeAllMarks (5 ∷ []) 1 marks ≡ 1 ∷ 9 ∷ 9 ∷ 9 ∷ 9 ∷ 9 ∷ []
+  k5-weight : drawWeights (frame (7 ∷ []) (5 ∷ []) (0 ∷ [])) 1 0 buffer buffer ≡ 5 ∷ 9 ∷ 9 ∷ 8 ∷ []
   -- K6: old panel 13 and 15, old start 0, f = 500: k = 101, leaver 15, new panel 11, 12, 13
-  k6-answer : rotationAnswer (frameA 100000) 3 0 (13 ∷ 15 ∷ []) 500 buffer ≡ RotationAnswer.rotated 101 101000 1
+  k6-answer : rotationAnswer (frameA 100000) 3 0 (13 ∷ 15 ∷ []) 500 buffer ≡ rotated 101 101000 1
   k6-leavers : rotationLeavers (frameA 100000) 3 0 (13 ∷ 15 ∷ []) 500 buffer ≡ 15 ∷ []
-  k6-panel : drawNumbers (frameA 100000) 3 101000 buffer buffer ≡ 11 ∷ 12 ∷ 13 ∷ 4 ∷ []
+  k6-panel : drawNumbers (frameA 100000) 3 101000 buffer buffer ≡ 11 ∷ 12 ∷ 13 ∷ 8 ∷ []
   -- K7, K8: the C and the Q figure of the listing, whose output is exact
   k7-k8 : output streamA ≡ linesA
-  -- "Here D is 1,063,800,000"
+  -- "Here D is 1,063,800,000"; its denominator is not 0
   k8-direct : numerator directA (10000 ∷ 10000 ∷ 10100 ∷ []) ≡ 1063800000 * denominator directA
-  -- K9: units 1 to 3, turnover 10 and R 500,000 each, z = 1, start 0: unit 1
-  k9 : drawNumbers (frame (1 ∷ 2 ∷ 3 ∷ []) (10 ∷ 10 ∷ 10 ∷ []) (500000 ∷ 500000 ∷ 500000 ∷ [])) 1 0 buffer buffer ≡ 1 ∷ 2 ∷ 3 ∷ 4 ∷ []
+  k8-defined : ltb 0 (denominator directA) ≡ true
+  -- K9: z = 1, start 0: unit 1 (equal keys, lower number first)
+  k9-answer : drawAnswer frameTied 1 0 buffer buffer ≡ drawn 1 30
+  k9-numbers : drawNumbers frameTied 1 0 buffer buffer ≡ 1 ∷ 9 ∷ 9 ∷ 8 ∷ []
   -- K10: relative 2,499 refused by 13, 2,500 taken
-  k10-refused : answerOf oneUnit (Call.quarter (2499 ∷ [])) ≡ Answer.refused 13
-  k10-taken : answerOf oneUnit (Call.quarter (2500 ∷ [])) ≡ Answer.figure 250000000
+  k10-refused : callAnswer oneUnit (Call.quarter (2499 ∷ [])) ≡ Judged.refused 13
+  k10-taken : callAnswer oneUnit (Call.quarter (2500 ∷ [])) ≡ Judged.given 250000000
   -- K11
-  k11 : totalAnswer (600000 ∷ 400000 ∷ []) (1062000000 ∷ 1000000000 ∷ []) ≡ TotalAnswer.total 1037200000
+  k11 : totalAnswer (600000 ∷ 400000 ∷ []) (1062000000 ∷ 1000000000 ∷ []) ≡ Judged.given 1037200000
 
 pub reference-table : ReferenceTable
-unfolding _or_ _and_ outside refuse sum products scaled anyOf anyPair risesFrom rising elem
+unfolding _or_ _and_ outside refuse _then_ sum products scaled anyOf anyPair risesFrom rising elem
     sumOf count byKey rank firsts listed leastFrom
     moreTurnover larger largest restWithout reachesRest fits takeAllSize restTurnover takeAllGroup baseWeight badTurnovers badSize badCount takeAllRefusal takeAllAnswer takeAllMarks
     shifted keyNumerator keyDenominator fractionBelow keyBelow sampledBy drawnBy panelNumbers panelWeights badLists badRandom frameRefusal drawRefusal drawAnswer drawNumbers drawWeights
-    member members required startAt leaves suffices leastStep leavers badOldPanel rotationRefusal rotationAnswer rotationLeavers
-    held badIndex badRelative badWeight badUnits badOpenLists badBase badShares openRefusal openRecord openAnswer link figureAt broken callRefusal lateRefusal refusalOf answerOf after
+    member members required startAt leaves suffices leastStep leavers badOldPanel oldPanelRefusal rotationRefusal rotationAnswer rotationLeavers
+    held badIndex badRelative badWeight badUnits badOpenLists badBase badShares openInputRefusal weightRefusal openRefusal openRecord link figureAt broken callInputRefusal figureRefusal callRefusal callAnswer
     directOpen numerator denominator badSectors totalOf totalAnswer
-    bigEndian widthOf commandOf frontRefusal reading restOf digitsOn decimalOn lineOf lineOf2 panelLines
-    emptyJob onUnit drawnJob onDraw onShare onRelative withChain onOpen step printed output
+    bigEndian operandsOf widthOf commandOf readingRefusal reading restOf digitsOn decimalOn lineOf lineOf2 panelLines
+    emptyJob withUnit onUnit withPanel onDraw placeRefusal withShare onShare withRelative onRelative withChain onOpen step printed output
 reference-table =
     record {
       k1-group = refl;
@@ -111,17 +141,23 @@ reference-table =
       k1-answer = refl;
       k1-numbers = refl;
       k1-weights = refl;
-      k2 = refl;
-      k3 = refl;
-      k4 = refl;
-      k5 = refl;
+      k2-answer = refl;
+      k2-numbers = refl;
+      k3-group = refl;
+      k3-marks = refl;
+      k4-group = refl;
+      k4-marks = refl;
+      k5-group = refl;
+      k5-marks = refl;
       k5-weight = refl;
       k6-answer = refl;
       k6-leavers = refl;
       k6-panel = refl;
       k7-k8 = refl;
       k8-direct = refl;
-      k9 = refl;
+      k8-defined = refl;
+      k9-answer = refl;
+      k9-numbers = refl;
       k10-refused = refl;
       k10-taken = refl;
       k11 = refl;

@@ -1,11 +1,12 @@
 -- Document 01, "Chain record", refusals 9 to 13, 19, 21 to 24; 001, formulas 18 and 20.
-use Prim.Native.Nat.{ℕ, zero, suc, _+_, _-_, _*_, _/_}
+use Prim.Native.Nat.{ℕ, zero, suc, _-_, _*_, _/_}
 use mathlib.Core.Bool.{Bool, false, not}
 use mathlib.Core.List.{List, [], _∷_, _++_}
 use lib.ListN.{length, take, drop, replicate}
 use lib.Dec.{leb, ltb, eqb}
 use Rattle.rules.specs.Limits.{shareScale, relativeScale, lowestRelative, highestRelative, linkScale, leastWeight, mostWeight, lowestIndex, highestIndex, mostPanel, mostCloses}
-use Rattle.rules.specs.Tests.{_or_, outside, refuse}
+use Rattle.rules.specs.Tests.{_or_, outside}
+use Rattle.rules.specs.Refusals.{Judged, refuse, _then_, judged, stays}
 use Rattle.rules.specs.Lists.{sum, products, scaled, anyOf, anyPair}
 
 -- The chain record. `weights` has every place of the record; the units' v are the first `units` of them.
@@ -58,17 +59,27 @@ badBase ws = anyOf (λ w. eqb w 0) ws or ltb mostWeight (sum ws)
 unfoldable pub badShares : List ℕ → Bool
 badShares gs = anyOf (λ g. ltb shareScale g) gs or eqb (sum gs) 0
 
--- lists of W, shares g and updating relatives a (here rs), and the start index
-unfoldable pub openRefusal : List ℕ → List ℕ → List ℕ → ℕ → ℕ
-openRefusal ws gs rs start =
+-- 9 to 13: lists of W, shares g and updating relatives a (here rs), and the start index
+unfoldable pub openInputRefusal : List ℕ → List ℕ → List ℕ → ℕ → ℕ
+openInputRefusal ws gs rs start =
     refuse (badOpenLists ws gs rs) 9
-    (refuse (badBase ws) 10
-    (refuse (badShares gs) 11
-    (refuse (badIndex start) 12
-    (refuse (anyPair badRelative gs rs) 13
-    (refuse (anyPair badWeight gs (shared ws gs) or anyPair badWeight gs (opening ws gs rs)) 21
-    (refuse (ltb mostWeight (sum (opening ws gs rs))) 22
-    0))))))
+    then refuse (badBase ws) 10
+    then refuse (badShares gs) 11
+    then refuse (badIndex start) 12
+    then refuse (anyPair badRelative gs rs) 13
+
+-- 21 and 22 of new weights v, "at open or after close": a mark of 0 is an absent unit
+unfoldable pub weightRefusal : List ℕ → List ℕ → ℕ
+weightRefusal marks vs =
+    refuse (anyPair badWeight marks vs) 21
+    then refuse (ltb mostWeight (sum vs)) 22
+
+-- at the open 21 judges the u as well
+abbrev pub openWeightRefusal : List ℕ → List ℕ → List ℕ → ℕ
+openWeightRefusal ws gs rs = refuse (anyPair badWeight gs (shared ws gs)) 21 then weightRefusal gs (opening ws gs rs)
+
+unfoldable pub openRefusal : List ℕ → List ℕ → List ℕ → ℕ → ℕ
+openRefusal ws gs rs start = openInputRefusal ws gs rs start then openWeightRefusal ws gs rs
 
 -- the record of an accepted open: places beyond the units hold 0
 unfoldable pub openRecord : List ℕ → List ℕ → List ℕ → ℕ → Chain
@@ -80,16 +91,8 @@ openRecord ws gs rs start =
       closes = 0;
     }
 
-pub data Opening : Type 0 where
-  refused : ℕ → Opening
-  opened : Chain → Opening
-
-abbrev pub openBy : ℕ → Chain → Opening
-openBy zero r = opened r
-openBy (suc n) r = refused (suc n)
-
-unfoldable pub openAnswer : List ℕ → List ℕ → List ℕ → ℕ → Opening
-openAnswer ws gs rs start = openBy (openRefusal ws gs rs start) (openRecord ws gs rs start)
+unfoldable pub openAnswer : List ℕ → List ℕ → List ℕ → ℕ → Judged Chain
+openAnswer ws gs rs start = judged (openRefusal ws gs rs start) (openRecord ws gs rs start)
 
 -- ---- quarter and close, each with one relative p a unit
 pub data Call : Type 0 where
@@ -125,38 +128,31 @@ broken r =
     or eqb (sum (held r)) 0
     or ltb mostWeight (sum (held r))
 
--- 19, 9 and 13, which quarter and close share, and then what comes later
-unfoldable pub callRefusal : Chain → List ℕ → ℕ → ℕ
-callRefusal r ps later =
+-- 19, 9 and 13, which quarter and close share
+unfoldable pub callInputRefusal : Chain → List ℕ → ℕ
+callInputRefusal r ps =
     refuse (broken r) 19
-    (refuse (not (eqb (length ps) (r .units))) 9
-    (refuse (anyPair badRelative (held r) ps) 13
-    later))
+    then refuse (not (eqb (length ps) (r .units))) 9
+    then refuse (anyPair badRelative (held r) ps) 13
 
--- 23, "F outside 10^8 to 10^10", and 24, "forty closes accepted (quarter too)", which they share
-unfoldable pub lateRefusal : Chain → List ℕ → ℕ
-lateRefusal r ps = refuse (badIndex (figureOf r ps)) 23 (refuse (leb mostCloses (r .closes)) 24 0)
+-- 21 and 22 judge the new v of a close; a quarter has none
+abbrev pub newWeightRefusal : Chain → Call → ℕ
+newWeightRefusal r (quarter ps) = 0
+newWeightRefusal r (close ps) = weightRefusal (held r) (moved r ps)
 
--- 21 and 22 judge the new v
-unfoldable pub refusalOf : Chain → Call → ℕ
-refusalOf r (quarter ps) = callRefusal r ps (lateRefusal r ps)
-refusalOf r (close ps) =
-    callRefusal r ps
-    (refuse (anyPair badWeight (held r) (moved r ps)) 21
-    (refuse (ltb mostWeight (sum (moved r ps))) 22
-    (lateRefusal r ps)))
+-- 23, "F outside 10^8 to 10^10", and 24, "forty closes accepted (quarter too)"
+unfoldable pub figureRefusal : Chain → List ℕ → ℕ
+figureRefusal r ps = refuse (badIndex (figureOf r ps)) 23 then refuse (leb mostCloses (r .closes)) 24
 
-pub data Answer : Type 0 where
-  refused : ℕ → Answer
-  figure : ℕ → Answer
+unfoldable pub callRefusal : Chain → Call → ℕ
+callRefusal r call =
+    callInputRefusal r (relatives call)
+    then newWeightRefusal r call
+    then figureRefusal r (relatives call)
 
-abbrev pub answerBy : ℕ → ℕ → Answer
-answerBy zero f = figure f
-answerBy (suc n) f = refused (suc n)
-
--- "The answer is F"; a refusal answers its number alone
-unfoldable pub answerOf : Chain → Call → Answer
-answerOf r call = answerBy (refusalOf r call) (figureOf r (relatives call))
+-- "The answer is F"
+unfoldable pub callAnswer : Chain → Call → Judged ℕ
+callAnswer r call = judged (callRefusal r call) (figureOf r (relatives call))
 
 -- Quarter: "the record is unchanged". Close: "sets C to F, each v to floor(v × p / 10,000), and counts one close"; other places stay.
 abbrev pub accepted : Chain → Call → Chain
@@ -169,15 +165,11 @@ accepted r (close ps) =
       closes = suc (r .closes);
     }
 
-abbrev pub afterBy : ℕ → Chain → Chain → Chain
-afterBy zero r next = next
-afterBy (suc n) r next = r
-
--- the record after a call: "A refusal … changes nothing"
+-- the record after a call
 unfoldable pub after : Chain → Call → Chain
-after r call = afterBy (refusalOf r call) r (accepted r call)
+after r call = stays (callRefusal r call) r (accepted r call)
 
 -- the answers to a list of calls, each handed the record that the call before it left
-unfoldable pub answers : Chain → List Call → List Answer
+unfoldable pub answers : Chain → List Call → List (Judged ℕ)
 answers r [] = []
-answers r (call ∷ calls) = answerOf r call ∷ answers (after r call) calls
+answers r (call ∷ calls) = callAnswer r call ∷ answers (after r call) calls

@@ -3,7 +3,8 @@ use Prim.Native.Nat.{ℕ, suc, _+_, _*_, _≤_, _<_}
 use mathlib.Core.List.{List, [], _∷_}
 use Rattle.rules.specs.Limits.{shareScale, relativeScale, boundScale, boundFactor}
 use Rattle.rules.specs.Lists.{sum, products}
-use Rattle.rules.specs.Chain.{Call, Answer, relatives}
+use Rattle.rules.specs.Refusals.{Judged}
+use Rattle.rules.specs.Chain.{Call, relatives}
 
 -- The exact weights e are `weights` over `scale`, and E is `total` over `totalScale`.
 pub record Direct : Type 0 where
@@ -53,10 +54,10 @@ pub record Within (figure num den m : ℕ) : Type 0 where
   pub notBelow : boundScale * num ≤ boundScale * (figure * den) + boundFactor * (m + 1) * num
 
 -- Over a whole list of calls and their answers, one each: every figure is within the bound; "A refused call has no D and changes nothing."
-abbrev pub AllWithin : Direct → List Call → List Answer → Type 0
+abbrev pub AllWithin : Direct → List Call → List (Judged ℕ) → Type 0
 AllWithin d [] [] = Unit
 AllWithin d [] (a ∷ rest) = ⊥
 AllWithin d (call ∷ calls) [] = ⊥
-AllWithin d (call ∷ calls) (Answer.refused n ∷ rest) = AllWithin d calls rest
-AllWithin d (call ∷ calls) (Answer.figure f ∷ rest) =
+AllWithin d (call ∷ calls) (Judged.refused n ∷ rest) = AllWithin d calls rest
+AllWithin d (call ∷ calls) (Judged.given f ∷ rest) =
     Within f (numerator d (relatives call)) (denominator d) (d .m) × AllWithin (directAfter d call) calls rest

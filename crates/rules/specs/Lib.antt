@@ -1,7 +1,9 @@
 pub mod Limits
 pub mod Tests
+pub mod Refusals
 pub mod Lists
 pub mod Selection
+pub mod Order
 pub mod TakeAll
 pub mod Draw
 pub mod Rotation
@@ -9,5 +11,6 @@ pub mod Chain
 pub mod Direct
 pub mod Total
 pub mod Stream
+pub mod Decimal
 pub mod Lines
 pub mod Job

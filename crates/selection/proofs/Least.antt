@@ -1,12 +1,13 @@
 -- The smallest number at which a test holds, as a loop that counts upward finds it.
 use mathlib.Core.Path.{_≡_, refl}
-use mathlib.Core.Logic.{⊎-elim, _⊎_}
-use mathlib.Core.Bool.{Bool, true, false, cond}
+use mathlib.Core.Logic.{⊎-elim}
+use mathlib.Core.Bool.{Bool, true, false}
 use Prim.Native.Nat.{ℕ, zero, suc, _+_, _-_, _≤_, _<_}
 use native.Mathlib.Nat.{eq-or-lt-of-le}
 use native.Mathlib.Omega.{arith}
 use native.Mathlib.Numerals.{add-one}
 use Rattle.rules.specs.Selection.{leastFrom}
+use Rattle.rules.proofs.Tests.{by-test}
 
 -- at q, of those below z: the test holds, it fails, and none is left
 pub least-hit : (p : ℕ → Bool) (z q : ℕ) → q < z → p q ≡ true → leastFrom p (z - q) q ≡ q
@@ -24,31 +25,27 @@ least-end p z q l = let e : z - q ≡ 0 = omega arith in rw e
 pub least-le : (p : ℕ → Bool) (tries from : ℕ) → leastFrom p tries from ≤ from + tries
 unfolding leastFrom
 least-le p zero from = omega arith
-least-le p (suc tries) from = go (p from) (least-le p tries (suc from))
-  where
-    go : (b : Bool) → leastFrom p tries (suc from) ≤ suc from + tries → cond b from (leastFrom p tries (suc from)) ≤ from + suc tries
-    go true h = omega arith
-    go false h = omega arith
+least-le p (suc tries) from =
+    let later = least-le p tries (suc from) in
+    by-test (p from) (λ e. rw e (omega arith)) (λ e. rw e (omega arith))
 
 -- the test holds at the number that is found
 pub least-holds : (p : ℕ → Bool) (tries from : ℕ) → leastFrom p tries from < from + tries → p (leastFrom p tries from) ≡ true
 unfolding leastFrom
 least-holds p zero from h = absurd (let z : suc from ≤ from = omega arith in omega arith)
-least-holds p (suc tries) from h = go (p from) refl h (λ g. least-holds p tries (suc from) (omega arith))
-  where
-    go : (b : Bool) → p from ≡ b → cond b from (leastFrom p tries (suc from)) < from + suc tries → (leastFrom p tries (suc from) < from + suc tries → p (leastFrom p tries (suc from)) ≡ true) → p (cond b from (leastFrom p tries (suc from))) ≡ true
-    go true e g later = e
-    go false e g later = later g
+least-holds p (suc tries) from h =
+    by-test (p from) (λ e. rw e e) (λ e. let g = rw e at h in rw e (least-holds p tries (suc from) (omega arith)))
 
 -- and at none before it
 pub least-first : (p : ℕ → Bool) (tries from k : ℕ) → from ≤ k → k < leastFrom p tries from → p k ≡ false
 unfolding leastFrom
 least-first p zero from k l h = absurd (let z : suc k ≤ k = omega arith in omega arith)
-least-first p (suc tries) from k l h = go (p from) refl h (eq-or-lt-of-le l) (λ q g. least-first p tries (suc from) k q g)
-  where
-    go : (b : Bool) → p from ≡ b → k < cond b from (leastFrom p tries (suc from)) → (from ≡ k) ⊎ (from < k) → (from < k → k < leastFrom p tries (suc from) → p k ≡ false) → p k ≡ false
-    go true e g s later = absurd (let z : suc k ≤ k = omega arith in omega arith)
-    go false e g s later = ⊎-elim (λ q. rw q at e) (λ q. later q g) s
+least-first p (suc tries) from k l h =
+    by-test (p from)
+    (λ e. absurd (let g : k < from = rw e at h in omega arith))
+    (λ e.
+    let g = rw e at h in
+    ⊎-elim (λ q. rw q at e) (λ q. least-first p tries (suc from) k q g) (eq-or-lt-of-le l))
 
 -- tests that agree find the same number
 pub least-same : (p q : ℕ → Bool) (tries from : ℕ) → ((k : ℕ) → p k ≡ q k) → leastFrom p tries from ≡ leastFrom q tries from

@@ -1,4 +1,3 @@
-pub mod Logic
 pub mod Sums
 pub mod Orders
 pub mod Places

@@ -1,193 +1,159 @@
 -- A strict total order of the marked units, their ranks in it, and the threshold. Everything here is for an arbitrary order:
 -- the largest turnovers and the smallest keys are two instances, and another key is one more.
-use mathlib.Core.Path.{_≡_, refl, _∙_}
+use mathlib.Core.Path.{_≡_, refl, sym, ap, _∙_}
 use mathlib.Core.Logic.{⊎-elim, _⊎_, inl, inr}
 use mathlib.Core.Bool.{Bool, true, false, not, cond}
 use Prim.Native.Nat.{ℕ, suc, _+_, _≤_, _<_}
 use native.Mathlib.Nat.{le-refl, le-of-lt}
 use native.Mathlib.Omega.{arith}
 use lib.Dec.{ltb}
-use borrow.Author.Tests.{lt-ltb, le-ltb, ltb-true, ltb-false}
-use Rattle.rules.proofs.Tests.{and-left, and-right, and-true, and-on}
-use Rattle.rules.specs.Tests.{_or_, _and_}
-use Rattle.rules.specs.Selection.{sumOf, count, rank, firsts, byKey, every}
-use Rattle.selection.proofs.Logic.{not-both}
+use borrow.Author.Tests.{lt-ltb, le-ltb, ltb-true, ltb-false, not-true}
+use Rattle.rules.specs.Tests.{_and_}
+use Rattle.rules.specs.Selection.{sumOf, count, rank, firsts, byKey}
+use Rattle.rules.proofs.Tests.{and-left, and-right, and-true, and-on, or-on, or-off, or-second, or-none, or-false, by-test, not-both, must-hold, cannot-hold}
 use Rattle.selection.proofs.Sums.{sum-le, sum-less}
 
 -- A strict total order on the units below n that have the mark.
 pub record Order (among : ℕ → Bool) (before : ℕ → ℕ → Bool) (n : ℕ) : Type 0 where
   pub irr : (i : ℕ) → i < n → among i ≡ true → before i i ≡ false
-  pub trans : (i j k : ℕ) → i < n → j < n → k < n → among i ≡ true → among j ≡ true → among k ≡ true → before i j ≡ true → before j k ≡ true → before i k ≡ true
+  pub trans :
+      (i j k : ℕ) → i < n → j < n → k < n → among i ≡ true → among j ≡ true → among k ≡ true
+      → before i j ≡ true → before j k ≡ true → before i k ≡ true
   pub total : (i j : ℕ) → i < n → j < n → among i ≡ true → among j ≡ true → before i j ≡ false → before j i ≡ false → i ≡ j
 
--- an order of all units is one of the marked
-pub order-among : (among : ℕ → Bool) (before : ℕ → ℕ → Bool) (n : ℕ) → Order every before n → Order among before n
-order-among among before n o = record {
-  irr = λ i l a. o .irr i l refl;
-  trans = λ i j k li lj lk a b c h g. o .trans i j k li lj lk refl refl refl h g;
-  total = λ i j li lj a b h g. o .total i j li lj refl refl h g;
-}
+module _ {among : ℕ → Bool} {before : ℕ → ℕ → Bool} {n : ℕ} (o : Order among before n) where
+  module _ (i j : ℕ) (li : i < n) (lj : j < n) (ai : among i ≡ true) (aj : among j ≡ true) (h : before i j ≡ true) where
+    ahead : (k : ℕ) → k < n → (among k and before k i) ≡ true → (among k and before k j) ≡ true
+    ahead k lk g =
+        let ak = and-left (among k) (before k i) g in
+        and-true (among k) (before k j) ak (o .trans k i j lk li lj ak ai aj (and-right (among k) (before k i) g) h)
 
-module _ (among : ℕ → Bool) (before : ℕ → ℕ → Bool) (n : ℕ) (o : Order among before n) where
-  -- who comes before has no higher rank among the units below m, and a lower one if it is itself below m
-  pub rank-mono : (m i j : ℕ) → m ≤ n → i < n → j < n → among i ≡ true → among j ≡ true → before i j ≡ true → rank among before m i ≤ rank among before m j
-  unfolding rank count
-  rank-mono m i j lm li lj ai aj h =
-      sum-le (λ k. among k and before k i) (λ k. among k and before k j) (λ k. 1) m
-      (λ k lk g.
-      let a : among k ≡ true = and-left (among k) (before k i) g in
-      and-true (among k) (before k j) a (o .trans k i j (omega arith) li lj a ai aj (and-right (among k) (before k i) g) h))
+    -- who comes before has no higher rank among the units below m, and a lower one if it is itself below m
+    pub rank-mono : (m : ℕ) → m ≤ n → rank among before m i ≤ rank among before m j
+    unfolding rank count
+    rank-mono m lm = sum-le (λ k. among k and before k i) (λ k. among k and before k j) (λ k. 1) m (λ k lk g. ahead k (omega arith) g)
 
-  pub rank-less : (m i j : ℕ) → m ≤ n → i < m → j < n → among i ≡ true → among j ≡ true → before i j ≡ true → rank among before m i < rank among before m j
-  unfolding rank count
-  rank-less m i j lm lim lj ai aj h =
-      let li : i < n = omega arith in
-      let s : sumOf (λ k. among k and before k i) (λ k. 1) m + 1 ≤ sumOf (λ k. among k and before k j) (λ k. 1) m =
-      sum-less (λ k. among k and before k i) (λ k. among k and before k j) (λ k. 1) m i
-      (λ k lk g.
-      let a : among k ≡ true = and-left (among k) (before k i) g in
-      and-true (among k) (before k j) a (o .trans k i j (omega arith) li lj a ai aj (and-right (among k) (before k i) g) h))
-      lim
-      (and-on (among i) (before i i) ai ∙ o .irr i li ai)
-      (and-true (among i) (before i j) ai h) in
-      omega arith
+    pub rank-less : (m : ℕ) → m ≤ n → i < m → rank among before m i < rank among before m j
+    unfolding rank count
+    rank-less m lm lim =
+        let more =
+        sum-less (λ k. among k and before k i) (λ k. among k and before k j) (λ k. 1) i
+        (and-on (among i) (before i i) ai ∙ o .irr i li ai) (and-true (among i) (before i j) ai h)
+        m (λ k lk g. ahead k (omega arith) g) lim in
+        omega arith
 
-  -- not before: not a lower rank
-  pub rank-le : (i j : ℕ) → i < n → j < n → among i ≡ true → among j ≡ true → before i j ≡ false → rank among before n j ≤ rank among before n i
-  rank-le i j li lj ai aj h = go (before j i) refl
-    where
-      go : (b : Bool) → before j i ≡ b → rank among before n j ≤ rank among before n i
-      go true e = le-of-lt (rank-less n j i (le-refl n) lj li aj ai e)
-      go false e = rw (o .total i j li lj ai aj h e) (le-refl _)
+  module _ (i j : ℕ) (li : i < n) (lj : j < n) (ai : among i ≡ true) (aj : among j ≡ true) where
+    -- not before: not a lower rank
+    pub rank-le : before i j ≡ false → rank among before n j ≤ rank among before n i
+    rank-le h =
+        by-test (before j i)
+        (λ e. le-of-lt (rank-less j i lj li aj ai e n (le-refl n) lj))
+        (λ e. rw (o .total i j li lj ai aj h e) (le-refl _))
 
-  -- a rank names its unit
-  pub rank-one : (i j : ℕ) → i < n → j < n → among i ≡ true → among j ≡ true → rank among before n i ≡ rank among before n j → i ≡ j
-  rank-one i j li lj ai aj h = go (before i j) (before j i) refl refl
-    where
-      go : (a b : Bool) → before i j ≡ a → before j i ≡ b → i ≡ j
-      go true b e g = absurd (let r = rank-less n i j (le-refl n) li lj ai aj e in omega arith)
-      go false true e g = absurd (let r = rank-less n j i (le-refl n) lj li aj ai g in omega arith)
-      go false false e g = o .total i j li lj ai aj e g
+    -- a rank names its unit
+    pub rank-one : rank among before n i ≡ rank among before n j → i ≡ j
+    rank-one h =
+        o .total i j li lj ai aj
+        (cannot-hold (before i j) (λ e. omega (arith, rank-less i j li lj ai aj e n (le-refl n) li)))
+        (cannot-hold (before j i) (λ e. omega (arith, rank-less j i lj li aj ai e n (le-refl n) lj)))
 
   -- THE THRESHOLD: where w is the last of the first k + 1, those are the marked units that w does not come before
-  pub threshold : (k w : ℕ) → w < n → among w ≡ true → rank among before n w ≡ k → (i : ℕ) → i < n → firsts among before n (suc k) i ≡ (among i and not (before w i))
+  pub threshold :
+      (k w : ℕ) → w < n → among w ≡ true → rank among before n w ≡ k
+      → (i : ℕ) → i < n → firsts among before n (suc k) i ≡ (among i and not (before w i))
   unfolding firsts _and_
-  threshold k w lw aw r i li = go (among i) (before w i) refl refl
-    where
-      go : (a b : Bool) → among i ≡ a → before w i ≡ b → (a and ltb (rank among before n i) (suc k)) ≡ (a and not b)
-      go false b e g = refl
-      go true true e g = le-ltb (rank among before n i) (suc k) (let s = rank-less n w i (le-refl n) lw li aw e g in omega arith)
-      go true false e g = lt-ltb (rank among before n i) (suc k) (let s = rank-le w i lw li aw e g in omega arith)
+  threshold k w lw aw r i li =
+      by-test (among i)
+      (λ a. by-test (before w i)
+      (λ e. rw (a, e) (le-ltb (rank among before n i) (suc k) (omega (arith, rank-less w i lw li aw a e n (le-refl n) lw))))
+      (λ e. rw (a, e) (lt-ltb (rank among before n i) (suc k) (omega (arith, rank-le w i lw li aw a e)))))
+      (λ a. rw a)
 
--- one unit more is one more where it is marked and comes before
-pub rank-next : (among : ℕ → Bool) (before : ℕ → ℕ → Bool) (i x : ℕ) → rank among before (suc i) x ≡ rank among before i x + cond (among i and before i x) 1 0
-unfolding rank count sumOf
-rank-next among before i x = refl
+module _ (among : ℕ → Bool) (before : ℕ → ℕ → Bool) where
+  -- one unit more is one more where it is marked and comes before
+  pub rank-next : (i x : ℕ) → rank among before (suc i) x ≡ rank among before i x + cond (among i and before i x) 1 0
+  unfolding rank count sumOf
+  rank-next i x = refl
 
-pub rank-all : (among : ℕ → Bool) (before : ℕ → ℕ → Bool) (i x : ℕ) → rank among before i x ≤ count among i
-unfolding rank count
-rank-all among before i x = sum-le (λ k. among k and before k x) among (λ k. 1) i (λ k l h. and-left (among k) (before k x) h)
+  pub rank-all : (i x : ℕ) → rank among before i x ≤ count among i
+  unfolding rank count
+  rank-all i x = sum-le (λ k. among k and before k x) among (λ k. 1) i (λ k l h. and-left (among k) (before k x) h)
 
--- the first 0 are none
-pub firsts-zero : (among : ℕ → Bool) (before : ℕ → ℕ → Bool) (n i : ℕ) → firsts among before n 0 i ≡ false
-unfolding firsts _and_
-firsts-zero among before n i = go (among i)
-  where
-    go : (b : Bool) → (b and ltb (rank among before n i) 0) ≡ false
-    go true = le-ltb (rank among before n i) 0 (omega arith)
-    go false = refl
+  -- the first 0 are none
+  pub firsts-zero : (n i : ℕ) → firsts among before n 0 i ≡ false
+  unfolding firsts
+  firsts-zero n i =
+      cannot-hold (among i and ltb (rank among before n i) 0)
+      (λ e. omega (arith, ltb-true (rank among before n i) 0 (and-right (among i) (ltb (rank among before n i) 0) e)))
 
 -- What `byKey` asks of a key: a strict weak order.
 pub record KeyOrder (among : ℕ → Bool) (below : ℕ → ℕ → Bool) (n : ℕ) : Type 0 where
   pub asym : (i j : ℕ) → i < n → j < n → among i ≡ true → among j ≡ true → below i j ≡ true → below j i ≡ false
-  pub split : (i j k : ℕ) → i < n → j < n → k < n → among i ≡ true → among j ≡ true → among k ≡ true → below i k ≡ true → below i j ≡ false → below j k ≡ true
+  pub split :
+      (i j k : ℕ) → i < n → j < n → k < n → among i ≡ true → among j ≡ true → among k ≡ true
+      → below i k ≡ true → below i j ≡ false → below j k ≡ true
 
-pub by-left : (below : ℕ → ℕ → Bool) (j i : ℕ) → below j i ≡ true → byKey below j i ≡ true
-unfolding byKey _or_
-by-left below j i h = rw h
+-- ---- what it says that unit j comes before unit i by a key
+module _ (below : ℕ → ℕ → Bool) (j i : ℕ) where
+  pub by-left : below j i ≡ true → byKey below j i ≡ true
+  unfolding byKey
+  by-left h = or-on (below j i) (not (below i j) and ltb j i) h
 
-pub by-right : (below : ℕ → ℕ → Bool) (j i : ℕ) → below i j ≡ false → j < i → byKey below j i ≡ true
-unfolding byKey _or_ _and_
-by-right below j i h l = go (below j i)
-  where
-    go : (b : Bool) → (b or (not (below i j) and ltb j i)) ≡ true
-    go true = refl
-    go false = rw (h, lt-ltb j i l)
+  pub by-right : below i j ≡ false → j < i → byKey below j i ≡ true
+  unfolding byKey
+  by-right h l = or-second (below j i) (not (below i j) and ltb j i) (and-true (not (below i j)) (ltb j i) (ap not h) (lt-ltb j i l))
 
-by-cases : (below : ℕ → ℕ → Bool) (j i : ℕ) → byKey below j i ≡ true → (below j i ≡ true) ⊎ ((below i j ≡ false) × (j < i))
-unfolding byKey _or_ _and_
-by-cases below j i = go (below j i) (below i j) (ltb j i) refl
-  where
-    go : (a b c : Bool) → ltb j i ≡ c → (a or (not b and c)) ≡ true → (a ≡ true) ⊎ ((b ≡ false) × (j < i))
-    go true b c e h = inl refl
-    go false true c e h = absurd (not-both false h refl)
-    go false false c e h = inr (refl, ltb-true j i (e ∙ h))
+  by-cases : byKey below j i ≡ true → (below j i ≡ true) ⊎ ((below i j ≡ false) × (j < i))
+  unfolding byKey
+  by-cases h =
+      by-test (below j i) (λ a. inl a)
+      (λ a.
+      let both = sym (or-off (below j i) (not (below i j) and ltb j i) a) ∙ h in
+      inr (not-true (below i j) (and-left (not (below i j)) (ltb j i) both), ltb-true j i (and-right (not (below i j)) (ltb j i) both)))
 
-pub by-not : (below : ℕ → ℕ → Bool) (j i : ℕ) → byKey below j i ≡ false → (below j i ≡ false) × (below i j ≡ false → i ≤ j)
-unfolding byKey _or_ _and_
-by-not below j i = go (below j i) (below i j) (ltb j i) refl
-  where
-    go : (a b c : Bool) → ltb j i ≡ c → (a or (not b and c)) ≡ false → (a ≡ false) × (b ≡ false → i ≤ j)
-    go true b c e h = absurd (not-both true refl h)
-    go false true c e h = (refl, λ k. absurd (not-both true refl k))
-    go false false c e h = (refl, λ k. ltb-false j i (e ∙ h))
+  pub by-not : byKey below j i ≡ false → (below j i ≡ false) × (below i j ≡ false → i ≤ j)
+  unfolding byKey
+  by-not h =
+      let none = or-false (below j i) (not (below i j) and ltb j i) h in
+      (none .0, λ k. ltb-false j i (sym (and-on (not (below i j)) (ltb j i) (ap not k)) ∙ none .1))
 
--- a unit of a higher number comes before only by its key: equal keys are in the lower number's favour
-pub by-higher : (below : ℕ → ℕ → Bool) (j i : ℕ) → i ≤ j → byKey below j i ≡ below j i
-unfolding byKey _or_ _and_
-by-higher below j i l = go (below j i) (below i j)
-  where
-    go : (a b : Bool) → (a or (not b and ltb j i)) ≡ a
-    go true b = refl
-    go false true = refl
-    go false false = le-ltb j i l
+  -- a unit of a higher number comes before only by its key: equal keys are in the lower number's favour
+  pub by-higher : i ≤ j → byKey below j i ≡ below j i
+  unfolding byKey
+  by-higher l =
+      or-none (below j i) (not (below i j) and ltb j i)
+      (cannot-hold (not (below i j) and ltb j i) (λ e. not-both (ltb j i) (and-right (not (below i j)) (ltb j i) e) (le-ltb j i l)))
 
 -- an order by a key is a strict total order
-module _ (among : ℕ → Bool) (below : ℕ → ℕ → Bool) (n : ℕ) (o : KeyOrder among below n) where
+module _ {among : ℕ → Bool} {below : ℕ → ℕ → Bool} {n : ℕ} (o : KeyOrder among below n) where
   key-irr : (i : ℕ) → i < n → among i ≡ true → below i i ≡ false
-  key-irr i l a = go (below i i) refl
-    where
-      go : (b : Bool) → below i i ≡ b → below i i ≡ false
-      go true e = o .asym i i l l a a e
-      go false e = e
+  key-irr i l a = cannot-hold (below i i) (λ e. not-both (below i i) e (o .asym i i l l a a e))
 
-  key-trans : (i j k : ℕ) → i < n → j < n → k < n → among i ≡ true → among j ≡ true → among k ≡ true → below i j ≡ true → below j k ≡ true → below i k ≡ true
-  key-trans i j k li lj lk ai aj ak h g = go (below i k) refl
-    where
-      go : (b : Bool) → below i k ≡ b → below i k ≡ true
-      go true e = e
-      go false e = absurd (not-both (below k j) (o .split i k j li lk lj ai ak aj h e) (o .asym j k lj lk aj ak g))
+  module _ (i j k : ℕ) (li : i < n) (lj : j < n) (lk : k < n) (ai : among i ≡ true) (aj : among j ≡ true) (ak : among k ≡ true) where
+    -- below one that is not above a third: below the third
+    first : below i j ≡ true → below k j ≡ false → below i k ≡ true
+    first x y = must-hold (below i k) (λ e. not-both (below k j) (o .split i k j li lk lj ai ak aj x e) y)
+
+    second : below j i ≡ false → below k j ≡ false → below k i ≡ false
+    second x y = cannot-hold (below k i) (λ e. not-both (below j i) (o .split k j i lk lj li ak aj ai e y) x)
+
+    key-trans : byKey below i j ≡ true → byKey below j k ≡ true → byKey below i k ≡ true
+    key-trans h g =
+        ⊎-elim
+        (λ x. by-left below i k (first x (⊎-elim (λ y. o .asym j k lj lk aj ak y) (λ y. y .0) (by-cases below j k g))))
+        (λ x. ⊎-elim
+        (λ y. by-left below i k (o .split j i k lj li lk aj ai ak y (x .0)))
+        (λ y. by-right below i k (second (x .0) (y .0)) (omega arith))
+        (by-cases below j k g))
+        (by-cases below i j h)
 
   pub key-order : Order among (byKey below) n
   key-order = record {
-    irr = λ i l a. ir i l a (byKey below i i) refl;
-    trans = λ i j k li lj lk ai aj ak h g. ⊎-elim
-        (λ x. ⊎-elim (λ y. by-left below i k (key-trans i j k li lj lk ai aj ak x y)) (λ y. by-left below i k (first i j k li lj lk ai aj ak x (y .0))) (by-cases below j k g))
-        (λ x. ⊎-elim
-        (λ y. by-left below i k (o .split j i k lj li lk aj ai ak y (x .0)))
-        (λ y. by-right below i k (second i j k li lj lk ai aj ak (x .0) (y .0)) (omega arith))
-        (by-cases below j k g))
-        (by-cases below i j h);
+    irr = λ i l a. cannot-hold (byKey below i i)
+        (λ e. ⊎-elim (λ x. not-both (below i i) x (key-irr i l a)) (λ x. omega arith) (by-cases below i i e));
+    trans = key-trans;
     total = λ i j li lj ai aj h g.
         let a : j ≤ i = by-not below i j h .1 (by-not below j i g .0) in
         let b : i ≤ j = by-not below j i g .1 (by-not below i j h .0) in
         omega arith;
   }
-    where
-      ir : (i : ℕ) → i < n → among i ≡ true → (b : Bool) → byKey below i i ≡ b → byKey below i i ≡ false
-      ir i l a true e = absurd (⊎-elim (λ x. not-both (below i i) x (key-irr i l a)) (λ x. omega arith) (by-cases below i i e))
-      ir i l a false e = e
-
-      first : (i j k : ℕ) → i < n → j < n → k < n → among i ≡ true → among j ≡ true → among k ≡ true → below i j ≡ true → below k j ≡ false → below i k ≡ true
-      first i j k li lj lk ai aj ak x y = go (below i k) refl
-        where
-          go : (b : Bool) → below i k ≡ b → below i k ≡ true
-          go true e = e
-          go false e = absurd (not-both (below k j) (o .split i k j li lk lj ai ak aj x e) y)
-
-      second : (i j k : ℕ) → i < n → j < n → k < n → among i ≡ true → among j ≡ true → among k ≡ true → below j i ≡ false → below k j ≡ false → below k i ≡ false
-      second i j k li lj lk ai aj ak x y = go (below k i) refl
-        where
-          go : (b : Bool) → below k i ≡ b → below k i ≡ false
-          go true e = absurd (not-both (below j i) (o .split k j i lk lj li ak aj ai e y) x)
-          go false e = e

@@ -1,14 +1,13 @@
 -- A set of marked units such that each of them comes before each marked unit outside it: where it has k units, it is the k first.
-use mathlib.Core.Path.{_≡_, refl, sym, _∙_}
+use mathlib.Core.Path.{_≡_, sym, _∙_}
 use mathlib.Core.Bool.{Bool, true, false}
-use Prim.Native.Nat.{ℕ, _+_, _≤_, _<_}
+use Prim.Native.Nat.{ℕ, _≤_, _<_}
 use native.Mathlib.Omega.{arith}
 use lib.Dec.{ltb}
 use borrow.Author.Tests.{lt-ltb, le-ltb}
-use Rattle.rules.proofs.Tests.{and-left, and-right, and-true, and-on, and-off}
+use Rattle.rules.proofs.Tests.{and-left, and-right, and-true, and-on, and-off, by-test, not-both, must-hold}
 use Rattle.rules.specs.Tests.{_and_}
-use Rattle.rules.specs.Selection.{sumOf, count, rank, firsts}
-use Rattle.selection.proofs.Logic.{not-both}
+use Rattle.rules.specs.Selection.{count, rank, firsts}
 use Rattle.selection.proofs.Sums.{sum-le, sum-less}
 use Rattle.selection.proofs.Orders.{Order}
 
@@ -16,28 +15,22 @@ pub record Segment (among : ℕ → Bool) (before : ℕ → ℕ → Bool) (n : �
   pub marked : (i : ℕ) → i < n → chosen i ≡ true → among i ≡ true
   pub ahead : (i j : ℕ) → i < n → j < n → chosen i ≡ true → among j ≡ true → chosen j ≡ false → before i j ≡ true
 
-module _ (among : ℕ → Bool) (before : ℕ → ℕ → Bool) (n : ℕ) (o : Order among before n) (chosen : ℕ → Bool) (s : Segment among before n chosen) where
+module _ {among : ℕ → Bool} {before : ℕ → ℕ → Bool} {n : ℕ} {chosen : ℕ → Bool} (o : Order among before n) (s : Segment among before n chosen) where
   -- whoever comes before a chosen unit is chosen
   closed : (i j : ℕ) → i < n → j < n → chosen i ≡ true → among j ≡ true → before j i ≡ true → chosen j ≡ true
-  closed i j li lj ci aj h = go (chosen j) refl
-    where
-      go : (b : Bool) → chosen j ≡ b → chosen j ≡ true
-      go true e = e
-      go false e =
-          let ai = s .marked i li ci in
-          absurd (not-both (before j j) (o .trans j i j lj li lj aj ai aj h (s .ahead i j li lj ci aj e)) (o .irr j lj aj))
+  closed i j li lj ci aj h =
+      must-hold (chosen j)
+      (λ e. not-both (before j j) (o .trans j i j lj li lj aj (s .marked i li ci) aj h (s .ahead i j li lj ci aj e)) (o .irr j lj aj))
 
   chosen-rank : (i : ℕ) → i < n → chosen i ≡ true → rank among before n i < count chosen n
   unfolding rank count
   chosen-rank i li ci =
       let ai = s .marked i li ci in
-      let more : sumOf (λ j. among j and before j i) (λ j. 1) n + 1 ≤ sumOf chosen (λ j. 1) n =
-      sum-less (λ j. among j and before j i) chosen (λ j. 1) n i
+      let more =
+      sum-less (λ j. among j and before j i) chosen (λ j. 1) i (and-on (among i) (before i i) ai ∙ o .irr i li ai) ci n
       (λ j lj h. closed i j li lj ci (and-left (among j) (before j i) h) (and-right (among j) (before j i) h))
-      li
-      (and-on (among i) (before i i) ai ∙ o .irr i li ai)
-      ci in
-      omega (arith, more)
+      li in
+      omega arith
 
   other-rank : (i : ℕ) → i < n → among i ≡ true → chosen i ≡ false → count chosen n ≤ rank among before n i
   unfolding rank count
@@ -48,10 +41,9 @@ module _ (among : ℕ → Bool) (before : ℕ → ℕ → Bool) (n : ℕ) (o : O
   -- THE SEGMENT: k chosen units of which each comes before all the others are the k first
   pub segment-firsts : (k : ℕ) → count chosen n ≡ k → (i : ℕ) → i < n → chosen i ≡ firsts among before n k i
   unfolding firsts
-  segment-firsts k e i li = go (among i) (chosen i) refl refl
-    where
-      go : (a c : Bool) → among i ≡ a → chosen i ≡ c → chosen i ≡ (among i and ltb (rank among before n i) k)
-      go false true f g = absurd (not-both (among i) (s .marked i li g) f)
-      go false false f g = g ∙ sym (and-off (among i) (ltb (rank among before n i) k) f)
-      go true true f g = g ∙ sym (and-on (among i) (ltb (rank among before n i) k) f ∙ lt-ltb (rank among before n i) k (omega (arith, chosen-rank i li g, e)))
-      go true false f g = g ∙ sym (and-on (among i) (ltb (rank among before n i) k) f ∙ le-ltb (rank among before n i) k (omega (arith, other-rank i li f g, e)))
+  segment-firsts k e i li =
+      by-test (chosen i)
+      (λ c. c ∙ sym (and-true (among i) (ltb (rank among before n i) k) (s .marked i li c) (lt-ltb _ k (omega (arith, chosen-rank i li c)))))
+      (λ c. by-test (among i)
+      (λ a. c ∙ sym (and-on (among i) (ltb (rank among before n i) k) a ∙ le-ltb _ k (omega (arith, other-rank i li a c))))
+      (λ a. c ∙ sym (and-off (among i) (ltb (rank among before n i) k) a)))

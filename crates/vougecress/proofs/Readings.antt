@@ -3,11 +3,12 @@ use mathlib.Core.Path.{_≡_, refl, sym, ap, _∙_}
 use mathlib.Core.List.{List}
 use Prim.Native.Nat.{ℕ}
 use lib.ListN.{getD, drop}
-use Rattle.rules.specs.Stream.{Command, Reading, widthOf, reading, restOf}
-use Rattle.stream.specs.Value.{takenBy, takenOf}
-use Rattle.stream.proofs.Unread.{rest-is}
-use Rattle.boundary.specs.declared.reads.Read.{Read}
-use Rattle.boundary.specs.Reads.{commandRead}
+use Rattle.rules.specs.Refusals.{Judged}
+use Rattle.rules.specs.Stream.{Command, Front, widthOf, reading, restOf}
+use Rattle.stream_read.specs.Value.{takenBy, takenOf}
+use Rattle.stream_read.proofs.Unread.{rest-is}
+use Rattle.c_values.specs.declared.reads.Read.{Read}
+use Rattle.c_values.specs.Reads.{commandRead}
 use Rattle.vougecress.specs.Streams.{readFrom}
 
 command-takes : (c : Command) (n : ℕ) → commandRead c n .taken ≡ n
@@ -19,10 +20,10 @@ command-takes (Command.opens a) n = refl
 command-takes Command.quarter n = refl
 command-takes Command.close n = refl
 
-reading-takes : (r : Reading) (width : ℕ) → readFrom r (takenBy r width) .taken ≡ takenBy r width
-reading-takes (Reading.refused n) width = refl
-reading-takes Reading.ended width = refl
-reading-takes (Reading.command c) width = command-takes c width
+reading-takes : (r : Judged Front) (width : ℕ) → readFrom r (takenBy r width) .taken ≡ takenBy r width
+reading-takes (Judged.refused n) width = refl
+reading-takes (Judged.given Front.ended) width = refl
+reading-takes (Judged.given (Front.command c)) width = command-takes c width
 
 -- what is read, and the rest by what it says
 pub reads : (s : List ℕ) (r : Read) → r ≡ readFrom (reading s) (takenOf s) → (r ≡ readFrom (reading s) (takenOf s)) × (restOf s ≡ drop (r .taken) s)

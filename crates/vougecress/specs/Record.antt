@@ -1,25 +1,27 @@
 -- Calls on a chain record in a lent list: what they answer and what they leave there.
 use Prim.Native.Nat.{ℕ}
-use mathlib.Core.Bool.{cond}
-use mathlib.Core.List.{List, _++_}
-use lib.ListN.{length, drop}
+use mathlib.Core.List.{List}
+use lib.ListN.{length}
 use lib.Dec.{ltb}
-use Rattle.rules.specs.Chain.{Call, Answer, openRefusal, openRecord, answerOf, after}
-use Rattle.boundary.specs.Record.{recordPlaces, recordIn, recordList, laidBy}
+use Rattle.rules.specs.Refusals.{Judged, refuse, _then_, judged, written}
+use Rattle.rules.specs.Chain.{Call, relatives, openRefusal, openRecord, figureOf, callRefusal, accepted}
+use Rattle.c_values.specs.Record.{recordPlaces, recordIn, recordList}
 
 -- a list that is too short is no record: 19, before all else
-unfoldable pub listAnswer : List ℕ → Call → Answer
-listAnswer xs call = cond (ltb (length xs) recordPlaces) (Answer.refused 19) (answerOf (recordIn xs) call)
+unfoldable pub listRefusal : List ℕ → Call → ℕ
+listRefusal xs call = refuse (ltb (length xs) recordPlaces) 19 then callRefusal (recordIn xs) call
 
--- the list after a call; places beyond the record stay
+unfoldable pub listAnswer : List ℕ → Call → Judged ℕ
+listAnswer xs call = judged (listRefusal xs call) (figureOf (recordIn xs) (relatives call))
+
+-- the list after a call: the next record in its first places, or as it was
 unfoldable pub listAfter : List ℕ → Call → List ℕ
-listAfter xs call =
-    cond (ltb (length xs) recordPlaces) xs (recordList (after (recordIn xs) call) ++ drop recordPlaces xs)
+listAfter xs call = written (listRefusal xs call) (recordList (accepted (recordIn xs) call)) xs
 
 -- what open answers: 6 where the list has no room for a record, which is lower than the open's own
 unfoldable pub openedNumber : List ℕ → List ℕ → List ℕ → ℕ → List ℕ → ℕ
-openedNumber ws gs rs start xs = cond (ltb (length xs) recordPlaces) 6 (openRefusal ws gs rs start)
+openedNumber ws gs rs start xs = refuse (ltb (length xs) recordPlaces) 6 then openRefusal ws gs rs start
 
 -- the list after an open: the new record in its first places, or as it was
 unfoldable pub openedList : List ℕ → List ℕ → List ℕ → ℕ → List ℕ → List ℕ
-openedList ws gs rs start xs = laidBy (openedNumber ws gs rs start xs) (openRecord ws gs rs start) xs
+openedList ws gs rs start xs = written (openedNumber ws gs rs start xs) (recordList (openRecord ws gs rs start)) xs

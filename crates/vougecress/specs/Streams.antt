@@ -1,20 +1,18 @@
 -- Document 01, "Job stream": a reading, and a run of a whole stream, as the C interface gives them.
 use Prim.Native.Nat.{ℕ}
-use mathlib.Core.List.{List}
-use lib.ListN.{length}
+use Rattle.rules.specs.Refusals.{Judged}
 use Rattle.rules.specs.Stream as rules
-use Rattle.rules.specs.Job.{output}
-use Rattle.output.specs.Printed.{printRefusal}
-use Rattle.boundary.specs.declared.reads.Read.{Read}
-use Rattle.boundary.specs.Reads.{nothingRead, commandRead}
+use Rattle.c_values.specs.declared.reads.Read.{Read}
+use Rattle.c_values.specs.Reads.{nothingRead, commandRead}
 use Rattle.vougecress.specs.declared.streams.Run.{Run}
 
 -- a command with the bytes that it takes, the end, or a refusal
-abbrev pub readFrom : rules.Reading → ℕ → Read
-readFrom (rules.Reading.refused n) taken = nothingRead n
-readFrom rules.Reading.ended taken = nothingRead 0
-readFrom (rules.Reading.command c) taken = commandRead c taken
+abbrev pub readFrom : Judged rules.Front → ℕ → Read
+readFrom (Judged.refused n) taken = nothingRead n
+readFrom (Judged.given rules.Front.ended) taken = nothingRead 0
+readFrom (Judged.given (rules.Front.command c)) taken = commandRead c taken
 
--- a run: 6 where the buffer is shorter than the text; the bytes of the whole text in either case
-abbrev pub ranOn : List ℕ → List ℕ → Run
-ranOn stream out = record { refusal = printRefusal stream out; length = length (output stream) }
+-- a run: the bytes of the text that was laid; after a refusal 0
+abbrev pub ranFrom : Judged ℕ → Run
+ranFrom (Judged.refused n) = record { refusal = n; length = 0 }
+ranFrom (Judged.given bytes) = record { refusal = 0; length = bytes }

@@ -24,8 +24,12 @@ pub extern "C" fn vougecress_rotate(
     fraction: u32,
     leavers: &mut [u32],
 ) -> Rotated
-    ensures { λ r. ⌜ r ≡ rotatedFrom (rotationAnswer (frame (now (numbers .entry)) (now (turnovers .entry)) (now (randoms .entry))) z old (now (panel .entry)) fraction (now (leavers .entry))) ⌝ }
-    ensures { λ _. ⌜ Holds (rotationLeavers (frame (now (numbers .entry)) (now (turnovers .entry)) (now (randoms .entry))) z old (now (panel .entry)) fraction (now (leavers .entry))) (now (leavers .entry)) (now (leavers .exit)) ⌝ }
+    ensures { λ r.
+        ⌜ r ≡ rotatedFrom (rotationAnswer (frame (now (numbers .entry)) (now (turnovers .entry)) (now (randoms .entry))) z old (now (panel .entry))
+        fraction (now (leavers .entry))) ⌝ }
+    ensures { λ _.
+        ⌜ Holds (rotationLeavers (frame (now (numbers .entry)) (now (turnovers .entry)) (now (randoms .entry))) z old (now (panel .entry)) fraction
+        (now (leavers .entry))) (now (leavers .entry)) (now (leavers .exit)) ⌝ }
 {
     let answer = rotation::rotate(
         numbers,

@@ -1,16 +1,17 @@
 // The reader of a job stream, and what a whole stream prints, on lent bytes.
-use boundary::reads::Read;
-use boundary::reads::command_read;
-use boundary::reads::nothing_read;
-use stream::Reading;
+use c_values::reads::Read;
+use c_values::reads::command_read;
+use c_values::reads::nothing_read;
+use stream_read::Reading;
 ghost use mathlib.Core.Path.{_≡_};
-ghost use lib.ListN.{drop};
+ghost use lib.ListN.{length, drop};
 ghost use Rattle.rules.specs.Stream.{reading, restOf};
-ghost use Rattle.stream.specs.Value.{takenOf};
-ghost use Rattle.output.specs.Printed.{printedOn};
-ghost use Rattle.vougecress.specs.Streams.{readFrom, ranOn};
+ghost use Rattle.stream_read.specs.Value.{takenOf};
+ghost use Rattle.rules.specs.Job.{output};
+ghost use Rattle.job_output.specs.Printed.{printAnswer, printedOn};
+ghost use Rattle.vougecress.specs.Streams.{readFrom, ranFrom};
 
-// The answer of a run: the bytes of the whole text, after a refusal too.
+// The answer of a run: the bytes of the text that stands in the buffer.
 #[repr(C)]
 pub struct Run {
     pub refusal: u32,
@@ -22,8 +23,8 @@ pub extern "C" fn vougecress_read(stream: &[u8]) -> Read
     ensures { λ r. ⌜ r ≡ readFrom (reading (now (stream .entry))) (takenOf (now (stream .entry))) ⌝ }
     ensures { λ r. ⌜ restOf (now (stream .entry)) ≡ drop (r .taken) (now (stream .entry)) ⌝ }
 {
-    let taken = stream::taken(stream);
-    let reading = stream::read(stream);
+    let taken = stream_read::taken(stream);
+    let reading = stream_read::read(stream);
     match reading {
         Reading::Found(command) => command_read(command, taken),
         Reading::Ended => nothing_read(0),
@@ -33,17 +34,26 @@ pub extern "C" fn vougecress_read(stream: &[u8]) -> Read
 
 #[no_mangle]
 pub extern "C" fn vougecress_run(stream: &[u8], out: &mut [u8]) -> Run
-    ensures { λ r. ⌜ r ≡ ranOn (now (stream .entry)) (now (out .entry)) ⌝ }
+    ensures { λ r. ⌜ r ≡ ranFrom (printAnswer (now (stream .entry)) (now (out .entry))) ⌝ }
     ensures { λ _. ⌜ now (out .exit) ≡ printedOn (now (stream .entry)) (now (out .entry)) ⌝ }
 {
-    let printed = output::print(stream, out);
-    let length = printed.length as u64;
-    let answer = printed.answer;
+    let answer = job_output::print(stream, out);
     match answer {
-        output::Answer::Laid => Run { refusal: 0, length },
-        output::Answer::Refused(why) => Run {
+        job_output::Answer::Laid(bytes) => Run {
+            refusal: 0,
+            length: bytes as u64,
+        },
+        job_output::Answer::Refused(why) => Run {
             refusal: why.number() as u32,
-            length,
+            length: 0,
         },
     }
+}
+
+// The bytes of the text that a run lays. It only counts, and never refuses.
+#[no_mangle]
+pub extern "C" fn vougecress_run_length(stream: &[u8]) -> u64
+    ensures { λ r. ⌜ r ≡ length (output (now (stream .entry))) ⌝ }
+{
+    job_output::count(stream) as u64
 }

@@ -1,105 +1,69 @@
--- `judge` meets its contract: each return by the law of the test that refused and those that let pass.
-use mathlib.Core.Path.{sym, _∙_}
+-- `judge` meets its contract: each answer rewrites the sequence by the tests that were made.
+use mathlib.Core.Path.{_≡_}
 use borrow.Author.Needs.{needs}
-use borrow.Author.Tests.{le-leb, lt-leb, not-true, not-false}
-use Rattle.rules.specs.Draw.{badRandom}
-use Rattle.frame.proofs.Refusals.{lists-refused, numbers-refused, turnovers-refused, randoms-refused, start-refused, size-refused, none-refused}
+use borrow.Author.Tests.{le-leb, lt-leb}
+use Rattle.rules.specs.Tests.{_or_}
+use Rattle.rules.specs.Refusals.{refuse, _then_}
+use Rattle.rules.specs.Lists.{anyOf}
+use Rattle.rules.specs.TakeAll.{frame, badSize}
+use Rattle.rules.specs.Draw.{badRandom, frameRefusal}
 use Rattle.frame.proofs.judge.Statement.{statement}
 use Rattle.frame.proofs.judge.Tie as tie
 
-bad-lists-requires : tie.Need-bad-lists-requires
-bad-lists-requires c κs = search needs
+-- where 1, 2 and 3 let pass, 4 and 5 decide
+past-three : (c : tie.Else3) →
+    let a = c .before .before .before .before .before .before .before .before .before .args in
+    frameRefusal (frame (a .numbers .now) (a .turnovers .now) (a .randoms .now)) (a .z) (a .start)
+    ≡ (refuse (anyOf badRandom (a .randoms .now) or badRandom (a .start)) 4 then refuse (badSize (a .turnovers .now) (a .z)) 5)
+unfolding frameRefusal refuse _then_
+past-three c =
+    let s2 = c .before .before in
+    let s1 = s2 .before .before in
+    rw (← s1 .before .bad-lists .ensures, s1 .if1 .left, ← s2 .before .rising .ensures, s2 .if2 .left, ← c .before .bad-turnovers .ensures, c .if3 .left)
 
 returns : tie.Need-returns
-returns c =
-    sym
-    (lists-refused _ _ _ _
-    (sym (c .before .bad-lists .ensures) ∙ c .if1 .taken))
-
-rising-requires : tie.Need-rising-requires
-rising-requires c κs = search needs
+unfolding frameRefusal refuse _then_
+returns c = rw (← c .before .bad-lists .ensures, c .if1 .taken)
 
 returns-2 : tie.Need-returns-2
+unfolding frameRefusal refuse _then_
 returns-2 c =
-    sym
-    (numbers-refused _ _ _ _
-    (sym (c .before .before .before .bad-lists .ensures) ∙ c .before .before .if1 .left)
-    (sym (c .before .rising .ensures) ∙ not-true _ (c .if2 .taken)))
-
-bad-turnovers-requires : tie.Need-bad-turnovers-requires
-bad-turnovers-requires c κs = search needs
+    let s1 = c .before .before in
+    rw (← s1 .before .bad-lists .ensures, s1 .if1 .left, ← c .before .rising .ensures, c .if2 .taken)
 
 returns-3 : tie.Need-returns-3
+unfolding frameRefusal refuse _then_
 returns-3 c =
-    sym
-    (turnovers-refused _ _ _ _
-    (sym (c .before .before .before .before .before .bad-lists .ensures) ∙ c .before .before .before .before .if1 .left)
-    (sym (c .before .before .before .rising .ensures) ∙ not-false _ (c .before .before .if2 .left))
-    (sym (c .before .bad-turnovers .ensures) ∙ c .if3 .taken))
-
-bad-randoms-requires : tie.Need-bad-randoms-requires
-bad-randoms-requires c κs = search needs
+    let s2 = c .before .before in
+    let s1 = s2 .before .before in
+    rw (← s1 .before .bad-lists .ensures, s1 .if1 .left, ← s2 .before .rising .ensures, s2 .if2 .left, ← c .before .bad-turnovers .ensures, c .if3 .taken)
 
 returns-4 : tie.Need-returns-4
-returns-4 c =
-    sym
-    (randoms-refused _ _ _ _
-    (sym (c .before .before .before .before .before .before .before .bad-lists .ensures) ∙ c .before .before .before .before .before .before .if1 .left)
-    (sym (c .before .before .before .before .before .rising .ensures) ∙ not-false _ (c .before .before .before .before .if2 .left))
-    (sym (c .before .before .before .bad-turnovers .ensures) ∙ c .before .before .if3 .left)
-    (sym (c .before .bad-randoms .ensures) ∙ c .if4 .taken))
+unfolding refuse _then_ _or_
+returns-4 c = rw (past-three (c .before .before), ← c .before .bad-randoms .ensures, c .if4 .taken)
 
 returns-5 : tie.Need-returns-5
-unfolding badRandom
+unfolding refuse _then_ _or_ badRandom
 returns-5 c =
-    sym
-    (start-refused _ _ _ _
-    (sym (c .before .before .before .before .before .before .before .before .bad-lists .ensures) ∙ c .before .before .before .before .before .before .before .if1 .left)
-    (sym (c .before .before .before .before .before .before .rising .ensures) ∙ not-false _ (c .before .before .before .before .before .if2 .left))
-    (sym (c .before .before .before .before .bad-turnovers .ensures) ∙ c .before .before .before .if3 .left)
-    (sym (c .before .before .bad-randoms .ensures) ∙ c .before .if4 .left)
-    (le-leb _ _ (c .if5 .taken)))
-
-bad-size-requires : tie.Need-bad-size-requires
-bad-size-requires c κs = search needs
+    let s4 = c .before in
+    rw (past-three (s4 .before .before), ← s4 .before .bad-randoms .ensures, s4 .if4 .left, le-leb _ _ (c .if5 .taken))
 
 returns-6 : tie.Need-returns-6
-unfolding badRandom
+unfolding refuse _then_ _or_ badRandom
 returns-6 c =
-    sym
-    (size-refused _ _ _ _
-    (sym (c .before .before .before .before .before .before .before .before .before .before .bad-lists .ensures) ∙ c .before .before .before .before .before .before .before .before .before .if1 .left)
-    (sym (c .before .before .before .before .before .before .before .before .rising .ensures) ∙ not-false _ (c .before .before .before .before .before .before .before .if2 .left))
-    (sym (c .before .before .before .before .before .before .bad-turnovers .ensures) ∙ c .before .before .before .before .before .if3 .left)
-    (sym (c .before .before .before .before .bad-randoms .ensures) ∙ c .before .before .before .if4 .left)
-    (lt-leb _ _ (c .before .before .if5 .left))
-    (sym (c .before .bad-size .ensures) ∙ c .if6 .taken))
+    let s5 = c .before .before in
+    let s4 = s5 .before in
+    rw (past-three (s4 .before .before), ← s4 .before .bad-randoms .ensures, s4 .if4 .left, lt-leb _ _ (s5 .if5 .left), ← c .before .bad-size .ensures, c .if6 .taken)
 
 returns-7 : tie.Need-returns-7
-unfolding badRandom
+unfolding refuse _then_ _or_ badRandom
 returns-7 c =
-    sym
-    (none-refused _ _ _ _
-    (sym (c .before .before .before .before .before .before .before .before .before .before .bad-lists .ensures) ∙ c .before .before .before .before .before .before .before .before .before .if1 .left)
-    (sym (c .before .before .before .before .before .before .before .before .rising .ensures) ∙ not-false _ (c .before .before .before .before .before .before .before .if2 .left))
-    (sym (c .before .before .before .before .before .before .bad-turnovers .ensures) ∙ c .before .before .before .before .before .if3 .left)
-    (sym (c .before .before .before .before .bad-randoms .ensures) ∙ c .before .before .before .if4 .left)
-    (lt-leb _ _ (c .before .before .if5 .left))
-    (sym (c .before .bad-size .ensures) ∙ c .if6 .left))
+    let s5 = c .before .before in
+    let s4 = s5 .before in
+    rw (past-three (s4 .before .before), ← s4 .before .bad-randoms .ensures, s4 .if4 .left, lt-leb _ _ (s5 .if5 .left), ← c .before .bad-size .ensures, c .if6 .left)
 
 pub judge-spec : {M : Type 1} → statement M
 judge-spec =
     tie.close
-    (tie.spec
-    bad-lists-requires
-    returns
-    rising-requires
-    returns-2
-    bad-turnovers-requires
-    returns-3
-    bad-randoms-requires
-    returns-4
-    returns-5
-    bad-size-requires
-    returns-6
-    returns-7)
+    (tie.spec (λ c κs. search needs) returns (λ c κs. search needs) returns-2 (λ c κs. search needs) returns-3 (λ c κs. search needs) returns-4
+    returns-5 (λ c κs. search needs) returns-6 returns-7)

@@ -1,11 +1,11 @@
 -- `rising` meets its contract. The invariant: the places from i on rise from the one before, if and only if the whole list rises.
-use Prim.Native.Nat.{ℕ, _+_, _-_, _≤_}
-use mathlib.Core.Path.{_≡_, sym, ap, _∙_}
+use Prim.Native.Nat.{_+_, _-_, _≤_}
+use mathlib.Core.Path.{_≡_, sym, _∙_}
 use native.Mathlib.Omega.{arith}
 use lib.ListN.{length, getD, drop}
 use borrow.Author.Needs.{needs}
 use Rattle.rules.specs.Lists.{rising, risesFrom}
-use Rattle.frame.proofs.Lists.{rises-start, rises-next, rises-stop, rises-end}
+use Rattle.rules.proofs.Lists.{rises-start, rises-next, rises-stop, rises-end}
 use Rattle.frame.proofs.rising.Statement.{statement}
 use Rattle.frame.proofs.rising.Tie as tie
 
@@ -15,67 +15,22 @@ Inv-loop numbers i₀ i = (1 ≤ i) × (risesFrom (getD numbers (i - 1) 0) (drop
 abbrev μ-loop : tie.MeasureT-loop
 μ-loop numbers i₀ i = length numbers - i
 
-loop-holds : tie.Need-loop-holds Inv-loop μ-loop
-loop-holds c = (omega arith, rises-start (c .args .numbers .now))
-
-mul-if1 : tie.Need-mul-if1 Inv-loop μ-loop
-mul-if1 c = search needs
-
-shared-slice-read-if1 : tie.Need-shared-slice-read-if1 Inv-loop μ-loop
-shared-slice-read-if1 c = omega arith
-
-sub-if1 : tie.Need-sub-if1 Inv-loop μ-loop
-sub-if1 c = omega arith
-
-mul-if1-2 : tie.Need-mul-if1-2 Inv-loop μ-loop
-mul-if1-2 c = search needs
-
-shared-slice-read-if1-2 : tie.Need-shared-slice-read-if1-2 Inv-loop μ-loop
-shared-slice-read-if1-2 c = omega arith
-
 returns : tie.Need-returns Inv-loop μ-loop
 returns c =
-    let numbers = c .before .before .before .before .before .args .numbers .now in
-    let i = c .before .before .before .before .loop .i in
-    sym (rises-stop (getD numbers (i - 1) 0) numbers i (search needs) (c .if1 .taken)) ∙ c .before .before .before .before .loop .inv .1
-
-add-i : tie.Need-add-i Inv-loop μ-loop
-add-i c = omega arith
-
-loop-less : tie.Need-loop-less Inv-loop μ-loop
-loop-less c = omega arith
+    let l = c .before .before .before .before .loop in
+    sym (rises-stop _ _ (l .i) (search needs) (c .if1 .taken)) ∙ l .inv .1
 
 loop-again : tie.Need-loop-again Inv-loop μ-loop
 loop-again c =
-    let numbers = c .before .before .before .before .before .args .numbers .now in
-    let i = c .before .before .before .before .loop .i in
-    let here : i + 1 - 1 ≡ i = omega arith in (
-      omega arith,
-      ap (λ (n : ℕ). risesFrom (getD numbers n 0) (drop (i + 1) numbers)) here
-          ∙ rises-next (getD numbers (i - 1) 0) numbers i (search needs) (c .if1 .left)
-          ∙ c .before .before .before .before .loop .inv .1,
-    )
+    let l = c .before .before .before .before .loop in
+    let here : l .i + 1 - 1 ≡ l .i = omega arith in
+    (omega arith, rw here (rises-next _ _ (l .i) (search needs) (c .if1 .left) ∙ l .inv .1))
 
 returns-2 : tie.Need-returns-2 Inv-loop μ-loop
-returns-2 c =
-    let numbers = c .before .before .args .numbers .now in
-    let i = c .before .loop .i in
-    sym (rises-end (getD numbers (i - 1) 0) numbers i (search needs)) ∙ c .before .loop .inv .1
+returns-2 c = sym (rises-end _ _ (c .before .loop .i) (search needs)) ∙ c .before .loop .inv .1
 
 pub rising-spec : {M : Type 1} → statement M
 rising-spec =
     tie.close
-    (tie.spec
-    Inv-loop
-    μ-loop
-    loop-holds
-    mul-if1
-    shared-slice-read-if1
-    sub-if1
-    mul-if1-2
-    shared-slice-read-if1-2
-    returns
-    add-i
-    loop-less
-    loop-again
-    returns-2)
+    (tie.spec Inv-loop μ-loop (λ c. (omega arith, rises-start (c .args .numbers .now))) (λ c. search needs) (λ c. omega arith) (λ c. omega arith)
+    (λ c. search needs) (λ c. omega arith) returns (λ c. omega arith) (λ c. omega arith) loop-again returns-2)

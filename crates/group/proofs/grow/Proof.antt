@@ -6,116 +6,70 @@ use mathlib.Core.List.{List}
 use Prim.Native.Nat.{ℕ, _+_, _-_, _*_, _≤_, _<_}
 use native.Mathlib.Nat.{mul-le-mul}
 use lib.ListN.{length, getD}
-use lib.Dec.{ltb}
 use borrow.Author.Tests.{lt-ltb, le-ltb}
 use Rattle.rules.specs.Limits.{mostTurnover, mostPanel}
 use Rattle.rules.specs.Selection.{every, leastFrom}
 use Rattle.rules.specs.TakeAll.{turnover, larger, restWithout, fits, takeAllSize}
 use Rattle.selection.specs.Ranked.{Ranked}
-use Rattle.selection.proofs.Sums.{sum-has, sum-list}
+use Rattle.selection.proofs.Sums.{place-le}
 use Rattle.selection.proofs.Least.{least-hit, least-miss, least-end}
 use Rattle.selection.proofs.TakeAll.{rest-none, rest-step, fits-is, size-start, rest-hit, rest-cut}
-use Rattle.group.specs.Group.{LastOf}
-use Rattle.group.proofs.Groups.{is-group}
+use Rattle.group.specs.Group.{LastOf, IsGroup}
+use Rattle.group.proofs.Groups.{is-group, last-none}
 use Rattle.group.proofs.grow.Statement.{statement}
 use Rattle.group.proofs.grow.Tie as tie
 
+-- q units are taken, and X and the last of them are known
+record Grown (ts : List ℕ) (z rest last q : ℕ) : Type 0 where
+  within : q ≤ z
+  rest-is : rest ≡ restWithout ts q
+  least : takeAllSize ts z ≡ leastFrom (fits ts z) (z - q) q
+  last-is : LastOf ts q last
+
 abbrev Inv-loop : tie.InvT-loop
-Inv-loop turnovers z total top rest₀ last₀ q₀ rest last q = (q ≤ z) × (rest ≡ restWithout turnovers q) × (takeAllSize turnovers z ≡ leastFrom (fits turnovers z) (z - q) q) × LastOf turnovers q last
+Inv-loop turnovers z total top rest₀ last₀ q₀ rest last q = Grown turnovers z rest last q
 
 abbrev μ-loop : tie.MeasureT-loop
 μ-loop turnovers z total top rest₀ last₀ q₀ rest last q = z - q
 
+-- a turn at q: its unit fits, or is taken
+module _ {ts top : List ℕ} {z rest last q : ℕ} (r : Ranked every (larger ts) (length ts) top z) (w : Grown ts z rest last q) (l : q < z) where
+  abbrev unit : ℕ
+  unit = getD top q 0
+
+  hit : (z - q) * turnover ts unit < rest → IsGroup ts z (record { q = q; n = z - q; rest = rest; last = last })
+  hit h =
+      let fit = fits-is ts r q l ∙ lt-ltb _ _ (subst (λ (k : ℕ). (z - q) * turnover ts unit < k) (w .rest-is) h) in
+      let e : takeAllSize ts z ≡ q = w .least ∙ least-hit (fits ts z) z q l fit in
+      is-group ts z _ (sym e) refl (w .rest-is ∙ sym (rest-hit ts z q e l)) (w .last-is)
+
+  falls : rest ≡ restWithout ts (q + 1) + turnover ts unit
+  falls = w .rest-is ∙ rest-step ts r q l
+
+  taken : rest ≤ (z - q) * turnover ts unit → Grown ts z (rest - turnover ts unit) unit (q + 1)
+  taken h = record {
+    within = omega arith;
+    rest-is = omega (arith, falls);
+    least = w .least ∙ least-miss (fits ts z) z q l (fits-is ts r q l ∙ le-ltb _ _ (subst (λ (k : ℕ). k ≤ (z - q) * turnover ts unit) (w .rest-is) h));
+    last-is = record { unit = λ h. r .low q l; rank-is = λ h. ap (λ (k : ℕ). k + 1) (r .at q l) };
+  }
+
 -- what is known in a turn
 module _ (c : tie.In-loop Inv-loop μ-loop) where
-  abbrev at : tie.At-loop Inv-loop μ-loop
-  at = c .before
-
   abbrev start : tie.Start Inv-loop μ-loop
-  start = at .before
+  start = c .before .before
 
-  abbrev ts : List ℕ
-  ts = start .args .turnovers .now
-
-  abbrev top : List ℕ
-  top = start .args .top .now
-
-  abbrev z : ℕ
-  z = start .args .z
-
-  abbrev q : ℕ
-  q = at .loop .q
+  low : getD (start .args .top .now) (c .before .loop .q) 0 < length (start .args .turnovers .now)
+  low = start .pre .1 .1 .low (c .before .loop .q) (c .loop-test .taken)
 
   abbrev v : ℕ
-  v = turnover ts (getD top q 0)
+  v = turnover (start .args .turnovers .now) (getD (start .args .top .now) (c .before .loop .q) 0)
 
-  ranked : Ranked every (larger ts) (length ts) top z
-  ranked = start .pre .1 .1
-
-  low : getD top q 0 < length ts
-  low = ranked .low q (c .loop-test .taken)
-
-  small : v ≤ mostTurnover
-  small = omega (arith, sum-has every (turnover ts) (length ts) (getD top q 0) low refl, sum-list ts, start .pre .0 .0 .total)
-
-  product : (z - q) * v ≤ mostPanel * mostTurnover
-  product = mul-le-mul {n₁ = z - q} {m₁ = v} {n₂ = mostPanel} {m₂ = mostTurnover} (omega (arith, start .pre .0 .0 .most)) small
-
-  step : restWithout ts q ≡ restWithout ts (q + 1) + v
-  step = rest-step ts top z ranked q (c .loop-test .taken)
-
-  test : fits ts z q ≡ ltb ((z - q) * v) (restWithout ts q)
-  test = fits-is ts top z ranked q (c .loop-test .taken)
-
-loop-holds : tie.Need-loop-holds Inv-loop μ-loop
-loop-holds c =
-    let s = c in
-    let ts = s .args .turnovers .now in
-    (omega arith, s .pre .0 .1 ∙ sym (rest-none ts (s .args .top .now) (s .args .z) (s .pre .1 .1)), size-start ts (s .args .z), record { unit = λ h. absurd (omega arith); rank-is = λ h. absurd (omega arith) })
-
-mul-unit : tie.Need-mul-unit Inv-loop μ-loop
-mul-unit c = omega (arith, c .before .before .pre .1 .0, c .loop-test .taken, c .before .before .good)
-
-shared-slice-read-unit : tie.Need-shared-slice-read-unit Inv-loop μ-loop
-shared-slice-read-unit c = omega (arith, c .before .before .before .pre .1 .0, c .before .loop-test .taken)
-
-mul-turnover : tie.Need-mul-turnover Inv-loop μ-loop
-mul-turnover c = omega (arith, low (c .before), c .before .before .before .good)
-
-shared-slice-read-turnover : tie.Need-shared-slice-read-turnover Inv-loop μ-loop
-shared-slice-read-turnover c = low (c .before .before)
-
-sub-n : tie.Need-sub-n Inv-loop μ-loop
-sub-n c = search needs
-
-mul-if1 : tie.Need-mul-if1 Inv-loop μ-loop
-mul-if1 c = omega (arith, product (c .before .before))
-
-returns : tie.Need-returns Inv-loop μ-loop
-returns c =
-    let i = c .before .before .before in
-    let inv = at i .loop .inv in
-    let e : takeAllSize (ts i) (z i) ≡ q i = inv .2 ∙ least-hit (fits (ts i) (z i)) (z i) (q i) (i .loop-test .taken) (test i ∙ lt-ltb ((z i - q i) * v i) (restWithout (ts i) (q i)) (subst (λ (k : ℕ). (z i - q i) * v i < k) (inv .1) (c .if1 .taken))) in
-    is-group (ts i) (z i) _ (sym e) refl (inv .1 ∙ sym (rest-hit (ts i) (z i) (q i) e (i .loop-test .taken))) (inv .3)
-
-sub-rest : tie.Need-sub-rest Inv-loop μ-loop
-sub-rest c = omega (arith, step (c .before .before .before))
-
-add-q : tie.Need-add-q Inv-loop μ-loop
-add-q c = search needs
-
-loop-less : tie.Need-loop-less Inv-loop μ-loop
-loop-less c = search needs
-
-loop-again : tie.Need-loop-again Inv-loop μ-loop
-loop-again c =
-    let i = c .before .before .before in
-    let inv = at i .loop .inv in (
-      omega arith,
-      omega (arith, step i, inv),
-      inv .2 ∙ least-miss (fits (ts i) (z i)) (z i) (q i) (i .loop-test .taken) (test i ∙ le-ltb ((z i - q i) * v i) (restWithout (ts i) (q i)) (subst (λ (k : ℕ). k ≤ (z i - q i) * v i) (inv .1) (c .if1 .left))),
-      record { unit = λ h. low i; rank-is = λ h. ap (λ (k : ℕ). k + 1) (ranked i .at (q i) (i .loop-test .taken)) },
-    )
+  product : (start .args .z - c .before .loop .q) * v ≤ mostPanel * mostTurnover
+  product =
+      let p = start .pre .0 .0 in
+      mul-le-mul {n₁ = start .args .z - c .before .loop .q} {m₁ = v} {n₂ = mostPanel} {m₂ = mostTurnover}
+      (omega (arith, p .most)) (omega (arith, place-le (start .args .turnovers .now) _ low, p .total))
 
 returns-2 : tie.Need-returns-2 Inv-loop μ-loop
 returns-2 c =
@@ -123,26 +77,25 @@ returns-2 c =
     let ts = s .args .turnovers .now in
     let z = s .args .z in
     let at = c .before .loop in
-    let l : at .q ≡ z = omega (arith, at .inv .0, c .loop-test .left) in
-    let e : takeAllSize ts z ≡ z = at .inv .2 ∙ least-end (fits ts z) z (at .q) (c .loop-test .left) ∙ l in
-    is-group ts z _ (sym e) (omega arith) (sym (rest-cut ts z e)) (subst (λ (n : ℕ). LastOf ts n (at .last)) l (at .inv .3))
+    let l : at .q ≡ z = omega (arith, at .inv .within, c .loop-test .left) in
+    let e : takeAllSize ts z ≡ z = at .inv .least ∙ least-end (fits ts z) z (at .q) (c .loop-test .left) ∙ l in
+    is-group ts z _ (sym e) (omega arith) (sym (rest-cut ts z e)) (subst (λ (n : ℕ). LastOf ts n (at .last)) l (at .inv .last-is))
+
+loop-holds : tie.Need-loop-holds Inv-loop μ-loop
+loop-holds c =
+    let ts = c .args .turnovers .now in
+    record { within = omega arith; rest-is = c .pre .0 .1 ∙ sym (rest-none ts (c .pre .1 .1)); least = size-start ts (c .args .z); last-is = last-none ts _ }
 
 pub grow-spec : {M : Type 1} → statement M
 grow-spec =
     tie.close
-    (tie.spec
-    Inv-loop
-    μ-loop
-    loop-holds
-    mul-unit
-    shared-slice-read-unit
-    mul-turnover
-    shared-slice-read-turnover
-    sub-n
-    mul-if1
-    returns
-    sub-rest
-    add-q
-    loop-less
-    loop-again
+    (tie.spec Inv-loop μ-loop loop-holds
+    (λ c. omega (arith, start c .pre .1 .0, c .loop-test .taken, start c .good))
+    (λ c. omega (arith, start (c .before) .pre .1 .0, c .before .loop-test .taken))
+    (λ c. omega (arith, low (c .before), start (c .before) .good))
+    (λ c. low (c .before .before)) (λ c. search needs) (λ c. omega (arith, product (c .before .before)))
+    (λ c. let i = c .before .before .before in hit (start i .pre .1 .1) (i .before .loop .inv) (i .loop-test .taken) (c .if1 .taken))
+    (λ c. let i = c .before .before .before in omega (arith, falls (start i .pre .1 .1) (i .before .loop .inv) (i .loop-test .taken)))
+    (λ c. search needs) (λ c. search needs)
+    (λ c. let i = c .before .before .before in taken (start i .pre .1 .1) (i .before .loop .inv) (i .loop-test .taken) (c .if1 .left))
     returns-2)

@@ -8,22 +8,15 @@ use Rattle.selection.proofs.TakeAll.{largest-none, largest-by}
 use Rattle.group.proofs.takes_all.Statement.{statement}
 use Rattle.group.proofs.takes_all.Tie as tie
 
-returns : tie.Need-returns
-returns c =
-    let a = c .before .before .before .args in
-    sym (ap (λ (q : ℕ). largest (a .turnovers .now) q (a .i)) (c .if1 .taken) ∙ largest-none (a .turnovers .now) (a .i))
-
-larger-than-requires : tie.Need-larger-than-requires
-larger-than-requires c κs =
-    let p = c .before .before .before .pre in
-    (p .1 .unit (omega (arith, c .if1 .left)), p .0)
-
-returns-2 : tie.Need-returns-2
-returns-2 c =
-    let a = c .before .before .before .before .args in
-    let p = c .before .before .before .before .pre in
-    let some : 0 < a .g .q = omega (arith, c .before .if1 .left) in
-    ap not (c .larger-than .ensures) ∙ sym (largest-by (a .turnovers .now) (a .g .q) (a .g .last) (a .i) (p .1 .unit some) (p .1 .rank-is some) (p .0))
-
 pub takes-all-spec : {M : Type 1} → statement M
-takes-all-spec = tie.close (tie.spec returns larger-than-requires returns-2)
+takes-all-spec =
+    tie.close
+    (tie.spec
+    (λ c.
+    let a = c .before .before .before .args in
+    sym (ap (λ (q : ℕ). largest (a .turnovers .now) q (a .i)) (c .if1 .taken) ∙ largest-none (a .turnovers .now) (a .i)))
+    (λ c κs. let p = c .before .before .before .pre in (p .1 .unit (omega (arith, c .if1 .left)), p .0))
+    (λ c.
+    let s = c .before .before .before .before in
+    let some : 0 < s .args .g .q = omega (arith, c .before .if1 .left) in
+    ap not (c .larger-than .ensures) ∙ sym (largest-by _ _ _ _ (s .pre .1 .unit some) (s .pre .1 .rank-is some) (s .pre .0))))

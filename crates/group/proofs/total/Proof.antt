@@ -20,46 +20,18 @@ loop-holds : tie.Need-loop-holds Inv-loop μ-loop
 unfolding sumOf
 loop-holds c = (omega arith, refl)
 
-mul-total : tie.Need-mul-total Inv-loop μ-loop
-mul-total c = search needs
-
-shared-slice-read-total : tie.Need-shared-slice-read-total Inv-loop μ-loop
-shared-slice-read-total c = search needs
-
-add-total : tie.Need-add-total Inv-loop μ-loop
-add-total c =
-    let ts = c .before .before .before .args .turnovers .now in
-    let i = c .before .before .loop .i in
-    omega (arith, sum-next every (turnover ts) i, sum-grows every (turnover ts) (i + 1) (length ts) (omega arith), sum-list ts, c .before .before .before .pre)
-
-add-i : tie.Need-add-i Inv-loop μ-loop
-add-i c = search needs
-
-loop-less : tie.Need-loop-less Inv-loop μ-loop
-loop-less c = search needs
-
-loop-again : tie.Need-loop-again Inv-loop μ-loop
-loop-again c =
-    let ts = c .before .before .before .args .turnovers .now in
-    (omega arith, omega (arith, sum-next every (turnover ts) (c .before .before .loop .i)))
-
-returns : tie.Need-returns Inv-loop μ-loop
-returns c =
-    let ts = c .before .before .args .turnovers .now in
-    let e : c .before .loop .i ≡ length ts = omega arith in
-    c .before .loop .inv .1 ∙ ap (sumOf every (turnover ts)) e ∙ sum-list ts
-
 pub total-spec : {M : Type 1} → statement M
 total-spec =
     tie.close
-    (tie.spec
-    Inv-loop
-    μ-loop
-    loop-holds
-    mul-total
-    shared-slice-read-total
-    add-total
-    add-i
-    loop-less
-    loop-again
-    returns)
+    (tie.spec Inv-loop μ-loop loop-holds (λ c. search needs) (λ c. search needs)
+    (λ c.
+    let s = c .before .before .before in
+    let ts = s .args .turnovers .now in
+    let i = c .before .before .loop .i in
+    omega (arith, sum-next every (turnover ts) i, sum-grows every (turnover ts) (i + 1) (length ts) (omega arith), sum-list ts, s .pre))
+    (λ c. search needs) (λ c. search needs)
+    (λ c. (omega arith, omega (arith, sum-next every (turnover (c .before .before .before .args .turnovers .now)) (c .before .before .loop .i))))
+    (λ c.
+    let ts = c .before .before .args .turnovers .now in
+    let e : c .before .loop .i ≡ length ts = omega arith in
+    c .before .loop .inv .1 ∙ ap (sumOf every (turnover ts)) e ∙ sum-list ts))

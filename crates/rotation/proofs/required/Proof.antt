@@ -10,17 +10,8 @@ use Rattle.rotation.proofs.required.Tie as tie
 mul-thousandths : tie.Need-mul-thousandths
 mul-thousandths c = omega (arith, mul-le-mul (c .pre .0) (c .pre .1))
 
-cast-scale : tie.Need-cast-scale
-cast-scale c = search needs
-
-sub-result : tie.Need-sub-result
-sub-result c = search needs
-
 add-result : tie.Need-add-result
 add-result c = omega (arith, mul-le-mul (c .pre .0) (c .pre .1))
-
-div-result : tie.Need-div-result
-div-result c = search needs
 
 returns : tie.Need-returns
 unfolding required
@@ -28,4 +19,4 @@ returns c = refl
 
 pub required-spec : {M : Type 1} → statement M
 required-spec =
-    tie.close (tie.spec mul-thousandths cast-scale sub-result add-result div-result returns)
+    tie.close (tie.spec mul-thousandths (λ c. search needs) (λ c. search needs) add-result (λ c. search needs) returns)

@@ -1,173 +1,131 @@
--- `close`: a refusal that a group of tests gives is the call's refusal; with none the answer is F, the index is F, the units' weights are the new ones and the other places stay.
+-- `close`: a refusal of the reckoning, or of the new weights and what comes late, is the call's refusal; with none the answer is F, the index is F,
+-- the units' weights are the new ones and the other places stay.
 use native.Mathlib.Omega.{arith}
-use mathlib.Core.Path.{_≡_, sym, ap, ap₂, _∙_}
+use mathlib.Core.Path.{_≡_, sym, ap, _∙_}
 use mathlib.Core.List.{List, _++_}
-use Prim.Native.Nat.{ℕ, _+_, _≤_}
-use native.Mathlib.Numerals.{add-one}
+use Prim.Native.Nat.{ℕ}
 use lib.ListN.{length, take, drop}
-use Rattle.refusals.specs.Number.{numberOf, verdictOf}
-use Rattle.rules.specs.Limits.{mostPanel}
-use Rattle.rules.specs.Chain.{Call, held, callRefusal, figureOf, moved, lateRefusal, refusalOf, accepted, answerOf, after}
-use Rattle.passes.specs.WeightRefusal.{weightRefusal}
-use Rattle.figures.specs.Steps.{recordWith, lastRefusal}
-use Rattle.chain.specs.Record.{recordOf}
-use Rattle.chain.proofs.Calls.{admitted, call-stops, call-goes, units-fit, length-held, reckonable, products-fit, take-moved, length-next, refused-answer, refused-record, figure-answer, figure-record}
 use borrow.Author.Needs.{needs}
+use Rattle.refusals.specs.Number.{verdictOf}
+use Rattle.rules.specs.Limits.{mostPanel}
+use Rattle.rules.specs.Refusals.{_then_}
+use Rattle.rules.specs.Chain.{Chain, Call, held, moved, weightRefusal, callRefusal}
+use Rattle.rules.proofs.Chains.{Admitted}
+use Rattle.chain.specs.Record.{recordOf}
+use Rattle.chain.proofs.Calls.{refused-call, accepted-call, input-refused, input-passed, figure-is, refusal-is, closed-record}
+use Rattle.chain.proofs.Calls.{units-fit, length-held, moved-is, products-fit, length-next, take-next}
 use Rattle.chain.proofs.Chain.close.Statement.{statement}
 use Rattle.chain.proofs.Chain.close.Tie as tie
 
-judge-call-requires : tie.Need-judge-call-requires
-judge-call-requires c κs = search needs
+abbrev start : tie.After-reckon → tie.Start
+start s = s .before .before .before .before .before
 
-enum-known-entry : tie.Need-enum-known-entry
-enum-known-entry c = search needs
+abbrev given : tie.After-reckon → Chain
+given s = recordOf (start s .args .t1)
 
-enum-told : tie.Need-enum-told
-enum-told c = search needs
+abbrev relativesOf : tie.After-reckon → List ℕ
+relativesOf s = start s .args .p .now
 
-figure-requires : tie.Need-figure-requires
-unfolding held
-figure-requires c κs =
-    let r = recordOf (c .before .before .before .before .before .before .before .before .before .before .args .t1) in
-    let ps = c .before .before .before .before .before .before .before .before .before .before .args .p .now in
-    let e : callRefusal r ps 0 ≡ 0 = sym (c .before .before .before .before .before .judge-call .ensures) ∙ ap verdictOf (c .before .before .before .enum-told .given .1) in
-    let places : length (r .weights) ≡ mostPanel = search needs in
-    let a = admitted r ps e in
-    (units-fit r ps places a, reckonable r ps places a)
+returns : tie.Need-returns
+returns c =
+    let s = c .before .before .before .before in
+    let call = Call.close (relativesOf s) in
+    let told = c .before .before .reckoned .given in
+    rw (c .refused .ensures) (refused-call (given s) call (told .0 .0) (input-refused (given s) call _ (s .reckon .ensures) _ (told .1)))
+
+-- a call with a figure: its record has places for its units
+places : (s : tie.After-reckon) → length (given s .weights) ≡ mostPanel
+places s = search needs
+
+admits : (s : tie.After-reckoned2) → let a = s .before .before in Admitted (given a) (relativesOf a)
+admits s =
+    let a = s .before .before in
+    input-passed (given a) (Call.close (relativesOf a)) _ (a .reckon .ensures) _ _ (s .reckoned2 .given .1)
 
 array-borrow-prefix-next : tie.Need-array-borrow-prefix-next
 array-borrow-prefix-next c =
-    let r = recordOf (c .before .before .before .before .before .before .before .before .before .before .before .before .args .t1) in
-    let ps = c .before .before .before .before .before .before .before .before .before .before .before .before .args .p .now in
-    let e : callRefusal r ps 0 ≡ 0 = sym (c .before .before .before .before .before .before .before .judge-call .ensures) ∙ ap verdictOf (c .before .before .before .before .before .enum-told .given .1) in
-    let places : length (r .weights) ≡ mostPanel = search needs in
-    let a = admitted r ps e in
-    units-fit r ps places a
+    let s = c .before .before .before .before .before in
+    units-fit _ _ (places (s .before .before)) (admits s)
 
-slice-aggregate-rescale : tie.Need-slice-aggregate-rescale
+slice-aggregate-scale-into : tie.Need-slice-aggregate-scale-into
 unfolding held
-slice-aggregate-rescale c =
-    let r = recordOf (c .before .before .before .before .before .before .before .before .before .before .before .before .before .args .t1) in
-    let ps = c .before .before .before .before .before .before .before .before .before .before .before .before .before .args .p .now in
-    let e : callRefusal r ps 0 ≡ 0 = sym (c .before .before .before .before .before .before .before .before .judge-call .ensures) ∙ ap verdictOf (c .before .before .before .before .before .before .enum-told .given .1) in
-    let places : length (r .weights) ≡ mostPanel = search needs in
-    let a = admitted r ps e in
-    sym (length-held r ps places a)
+slice-aggregate-scale-into c =
+    let s = c .before .before .before .before .before .before in
+    sym (length-held _ _ (places (s .before .before)) (admits s))
 
-rescale-requires : tie.Need-rescale-requires
+scale-into-requires : tie.Need-scale-into-requires
 unfolding held
-rescale-requires c κs =
-    let r = recordOf (c .before .before .before .before .before .before .before .before .before .before .before .before .before .args .t1) in
-    let ps = c .before .before .before .before .before .before .before .before .before .before .before .before .before .args .p .now in
-    let e : callRefusal r ps 0 ≡ 0 = sym (c .before .before .before .before .before .before .before .before .judge-call .ensures) ∙ ap verdictOf (c .before .before .before .before .before .before .enum-told .given .1) in
-    let places : length (r .weights) ≡ mostPanel = search needs in
-    let a = admitted r ps e in
-    (length-held r ps places a ∙ sym (a .long), products-fit r ps places a, omega arith)
+scale-into-requires c κs =
+    let s = c .before .before .before .before .before .before in
+    let room = places (s .before .before) in
+    let m = admits s in
+    (omega (arith, units-fit _ _ room m, m .long), length-held _ _ room m ∙ sym (m .long), products-fit _ _ room m, omega arith)
+
+-- the new places of the record
+abbrev reckonedAt : tie.After-scale-into → tie.After-reckoned2
+reckonedAt s = s .before .before .before .before .before .before .before
+
+abbrev beyond : Chain → List ℕ
+beyond r = drop (r .units) (r .weights)
+
+next : (s : tie.After-scale-into) → let a = reckonedAt s .before .before in
+    s .scale-into .last .1 .1 .1 .0 ++ beyond (given a) ≡ moved (given a) (relativesOf a) ++ beyond (given a)
+next s =
+    let t = reckonedAt s in
+    ap (λ (l : List ℕ). l ++ beyond (given (t .before .before))) (s .scale-into .ensures ∙ moved-is _ _ (places (t .before .before)) (admits t))
 
 slice-aggregate-judge-close : tie.Need-slice-aggregate-judge-close
-unfolding held
 slice-aggregate-judge-close c =
-    let r = recordOf (c .before .before .before .before .before .before .before .before .before .before .before .before .before .before .before .before .before .before .before .args .t1) in
-    let ps = c .before .before .before .before .before .before .before .before .before .before .before .before .before .before .before .before .before .before .before .args .p .now in
-    let e : callRefusal r ps 0 ≡ 0 = sym (c .before .before .before .before .before .before .before .before .before .before .before .before .before .before .judge-call .ensures) ∙ ap verdictOf (c .before .before .before .before .before .before .before .before .before .before .before .before .enum-told .given .1) in
-    let places : length (r .weights) ≡ mostPanel = search needs in
-    let a = admitted r ps e in
-    let m : c .before .before .before .before .before .rescale .last .0 ≡ moved r ps = c .before .before .before .before .before .rescale .ensures in
-    let next = ap (λ (l : List ℕ). l ++ drop (r .units) (r .weights)) m in
-    sym (ap length next ∙ length-next r ps places a)
+    let s = c .before .before .before .before .before in
+    let t = reckonedAt s in
+    sym (ap length (next s) ∙ length-next _ _ (places (t .before .before)) (admits t))
 
 judge-close-requires : tie.Need-judge-close-requires
-unfolding held
 judge-close-requires c κs =
-    let r = recordOf (c .before .before .before .before .before .before .before .before .before .before .before .before .before .before .before .before .before .before .before .args .t1) in
-    let ps = c .before .before .before .before .before .before .before .before .before .before .before .before .before .before .before .before .before .before .before .args .p .now in
-    let e : callRefusal r ps 0 ≡ 0 = sym (c .before .before .before .before .before .before .before .before .before .before .before .before .before .before .judge-call .ensures) ∙ ap verdictOf (c .before .before .before .before .before .before .before .before .before .before .before .before .enum-told .given .1) in
-    let places : length (r .weights) ≡ mostPanel = search needs in
-    let a = admitted r ps e in
-    let m : c .before .before .before .before .before .rescale .last .0 ≡ moved r ps = c .before .before .before .before .before .rescale .ensures in
-    let next = ap (λ (l : List ℕ). l ++ drop (r .units) (r .weights)) m in
-    let n = ap length next ∙ length-next r ps places a in
-    let u : r .units ≤ mostPanel = a .sound .most in
-    (units-fit r ps places a, omega (arith, n, u))
+    let s = c .before .before .before .before .before in
+    let t = reckonedAt s in
+    let room = units-fit _ _ (places (t .before .before)) (admits t) in
+    let n = ap length (next s) ∙ length-next _ _ (places (t .before .before)) (admits t) in
+    (room, omega (arith, n, admits t .sound .most))
 
-enum-known-rest : tie.Need-enum-known-rest
-enum-known-rest c = search needs
+-- 21 to 24 as the code judged them
+refusal : (s : tie.After-judge-close) → let a = reckonedAt (s .before .before .before .before .before .before) .before .before in
+    callRefusal (given a) (Call.close (relativesOf a)) ≡ verdictOf (s .judge-close .result)
+unfolding held
+refusal s =
+    let n = s .before .before .before .before .before .before in
+    let t = reckonedAt n in
+    let a = t .before .before in
+    let new = ap (take (given a .units)) (next n) ∙ take-next _ _ (places a) (admits t) in
+    refusal-is (given a) (Call.close (relativesOf a)) _ (a .reckon .ensures) _ _ (t .reckoned2 .given .1)
+    ∙ sym (ap (λ (l : List ℕ). weightRefusal (held (given a)) l then verdictOf (t .reckoned2 .given .0 .1 .0)) new)
+    ∙ sym (s .judge-close .ensures)
 
-enum-told-2 : tie.Need-enum-told-2
-enum-told-2 c = search needs
+returns-2 : tie.Need-returns-2
+returns-2 c =
+    let s = c .before .before .before .before in
+    let last = c .before .before .last .given in
+    rw (c .refused2 .ensures) (refused-call _ _ (last .0 .0) (sym (refusal s ∙ ap verdictOf (last .1))))
 
 add-count : tie.Need-add-count
 add-count c =
-    let r = recordOf (c .before .before .before .before .before .before .before .before .before .before .before .before .before .before .before .before .before .before .before .before .before .before .args .t1) in
-    let ps = c .before .before .before .before .before .before .before .before .before .before .before .before .before .before .before .before .before .before .before .before .before .before .args .p .now in
-    let e : callRefusal r ps 0 ≡ 0 = sym (c .before .before .before .before .before .before .before .before .before .before .before .before .before .before .before .before .before .judge-call .ensures) ∙ ap verdictOf (c .before .before .before .before .before .before .before .before .before .before .before .before .before .before .before .enum-told .given .1) in
-    let places : length (r .weights) ≡ mostPanel = search needs in
-    let a = admitted r ps e in
-    omega (arith, a .sound .closes)
-
-returns : tie.Need-returns
-unfolding answerOf after refusalOf weightRefusal
-returns c =
-    let r = recordOf (c .before .before .before .before .before .before .before .before .args .t1) in
-    let ps = c .before .before .before .before .before .before .before .before .args .p .now in
-    let why = c .before .entry .given .0 .0 in
-    let e : numberOf why ≡ callRefusal r ps 0 = sym (ap verdictOf (c .before .entry .given .1)) ∙ c .before .before .before .judge-call .ensures in
-    let n : refusalOf r (Call.close ps) ≡ numberOf why = call-stops r ps (weightRefusal (held r) (moved r ps) (lateRefusal r ps)) why e in
-    (refused-answer _ (figureOf r ps) why n, refused-record _ r (accepted r (Call.close ps)) why n)
-
-returns-2 : tie.Need-returns-2
-unfolding answerOf after refusalOf lateRefusal weightRefusal held
-returns-2 c =
-    let r = recordOf (c .before .before .before .before .before .before .before .before .before .before .before .before .before .before .before .before .before .before .before .before .before .before .before .args .t1) in
-    let ps = c .before .before .before .before .before .before .before .before .before .before .before .before .before .before .before .before .before .before .before .before .before .before .before .args .p .now in
-    let e : callRefusal r ps 0 ≡ 0 = sym (c .before .before .before .before .before .before .before .before .before .before .before .before .before .before .before .before .before .before .judge-call .ensures) ∙ ap verdictOf (c .before .before .before .before .before .before .before .before .before .before .before .before .before .before .before .before .enum-told .given .1) in
-    let places : length (r .weights) ≡ mostPanel = search needs in
-    let a = admitted r ps e in
-    let m : c .before .before .before .before .before .before .before .before .before .rescale .last .0 ≡ moved r ps = c .before .before .before .before .before .before .before .before .before .rescale .ensures in
-    let next = ap (λ (l : List ℕ). l ++ drop (r .units) (r .weights)) m in
-    let front = ap (take (r .units)) next ∙ take-moved r ps places a (drop (r .units) (r .weights)) in
-    let rest = ap₂ (λ (l : List ℕ) (f : ℕ). weightRefusal (held r) l (lastRefusal f (r .closes))) front (c .before .before .before .before .before .before .before .before .before .before .before .before .figure .ensures) in
-    let goes = call-goes r ps (weightRefusal (held r) (moved r ps) (lateRefusal r ps)) e ∙ sym rest ∙ sym (c .before .before .before .judge-close .ensures) in
-    let why = c .before .rest .given .0 .0 in
-    let n : refusalOf r (Call.close ps) ≡ numberOf why = goes ∙ ap verdictOf (c .before .rest .given .1) in
-    (refused-answer _ (figureOf r ps) why n, refused-record _ r (accepted r (Call.close ps)) why n)
+    let n = c .before .before .before .before .before .before .before .before in
+    omega (arith, admits (reckonedAt n) .sound .closes)
 
 returns-3 : tie.Need-returns-3
-unfolding answerOf after refusalOf lateRefusal weightRefusal held
 returns-3 c =
-    let r = recordOf (c .before .before .before .before .before .before .before .before .before .before .before .before .before .before .before .before .before .before .before .before .before .before .args .t1) in
-    let ps = c .before .before .before .before .before .before .before .before .before .before .before .before .before .before .before .before .before .before .before .before .before .before .args .p .now in
-    let e : callRefusal r ps 0 ≡ 0 = sym (c .before .before .before .before .before .before .before .before .before .before .before .before .before .before .before .before .before .judge-call .ensures) ∙ ap verdictOf (c .before .before .before .before .before .before .before .before .before .before .before .before .before .before .before .enum-told .given .1) in
-    let places : length (r .weights) ≡ mostPanel = search needs in
-    let a = admitted r ps e in
-    let m : c .before .before .before .before .before .before .before .before .rescale .last .0 ≡ moved r ps = c .before .before .before .before .before .before .before .before .rescale .ensures in
-    let next = ap (λ (l : List ℕ). l ++ drop (r .units) (r .weights)) m in
-    let front = ap (take (r .units)) next ∙ take-moved r ps places a (drop (r .units) (r .weights)) in
-    let rest = ap₂ (λ (l : List ℕ) (f : ℕ). weightRefusal (held r) l (lastRefusal f (r .closes))) front (c .before .before .before .before .before .before .before .before .before .before .before .figure .ensures) in
-    let goes = call-goes r ps (weightRefusal (held r) (moved r ps) (lateRefusal r ps)) e ∙ sym rest ∙ sym (c .before .before .judge-close .ensures) in
-    let n : refusalOf r (Call.close ps) ≡ 0 = goes ∙ ap verdictOf (c .enum-told2 .given .1) in
-    let same = ap₂ (λ (l : List ℕ) (x : ℕ). recordWith l (r .units) x (r .closes + 1)) next (c .before .before .before .before .before .before .before .before .before .before .before .figure .ensures) in
-    let count = ap (λ (x : ℕ). recordWith (moved r ps ++ drop (r .units) (r .weights)) (r .units) (figureOf r ps) x) (add-one (r .closes)) in (
-      figure-answer _ _ (figureOf r ps) n (c .before .before .before .before .before .before .before .before .before .before .before .figure .ensures),
-      figure-record _ r _ (accepted r (Call.close ps)) n (same ∙ count),
-    )
+    let s = c .before .before .before in
+    let n = s .before .before .before .before .before .before in
+    let t = reckonedAt n in
+    let a = t .before .before in
+    let call = Call.close (relativesOf a) in
+    let f = figure-is (given a) call _ (a .reckon .ensures) _ _ (t .reckoned2 .given .1) in
+    let moves = closed-record (given a) (relativesOf a) _ _ (next n) f in
+    rw (c .figured .ensures) (accepted-call (given a) call _ _ (refusal s ∙ ap verdictOf (c .before .enum-told .given .1)) f moves)
 
 pub close-spec : {M : Type 1} → statement M
 close-spec =
     tie.close
-    (tie.spec
-    judge-call-requires
-    enum-known-entry
-    enum-told
-    figure-requires
-    array-borrow-prefix-next
-    slice-aggregate-rescale
-    rescale-requires
-    slice-aggregate-judge-close
-    judge-close-requires
-    enum-known-rest
-    enum-told-2
-    add-count
-    returns
-    returns-2
-    returns-3)
+    (tie.spec (λ c κs. search needs) (λ c. search needs) (λ c κs. search needs) (λ c. search needs) array-borrow-prefix-next
+    slice-aggregate-scale-into scale-into-requires slice-aggregate-judge-close judge-close-requires (λ c. search needs) (λ c κs. search needs)
+    (λ c. search needs) add-count (λ c κs. search needs) returns returns-2 returns-3)

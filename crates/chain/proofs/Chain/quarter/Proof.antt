@@ -1,86 +1,52 @@
--- `quarter`: a refusal that the first or the last tests give is the call's refusal; with none the answer is F, and the record stays.
+-- `quarter`: a refusal of the reckoning, or one that comes late, is the call's refusal; with none the answer is F. The record stays.
 use mathlib.Core.Path.{_≡_, refl, sym, ap, _∙_}
-use Prim.Native.Nat.{ℕ}
-use lib.ListN.{length}
-use Rattle.refusals.specs.Number.{numberOf, verdictOf}
-use Rattle.rules.specs.Limits.{mostPanel}
-use Rattle.rules.specs.Chain.{Call, held, callRefusal, figureOf, lateRefusal, refusalOf, answerOf, after}
-use Rattle.figures.specs.Steps.{lastRefusal}
-use Rattle.chain.specs.Record.{recordOf}
-use Rattle.chain.proofs.Calls.{admitted, call-stops, call-goes, units-fit, reckonable, refused-answer, refused-record, figure-answer, figure-record}
 use borrow.Author.Needs.{needs}
+use Rattle.refusals.specs.Number.{verdictOf}
+use Rattle.rules.specs.Refusals.{_then_}
+use Rattle.rules.specs.Chain.{Chain, Call, callRefusal}
+use Rattle.chain.specs.Record.{recordOf}
+use Rattle.chain.proofs.Calls.{refused-call, accepted-call, input-refused, figure-is, refusal-is}
 use Rattle.chain.proofs.Chain.quarter.Statement.{statement}
 use Rattle.chain.proofs.Chain.quarter.Tie as tie
 
-judge-call-requires : tie.Need-judge-call-requires
-judge-call-requires c κs = search needs
+abbrev start : tie.After-reckon → tie.Start
+start s = s .before .before .before .before .before
 
-enum-known-entry : tie.Need-enum-known-entry
-enum-known-entry c = search needs
+abbrev given : tie.After-reckon → Chain
+given s = recordOf (start s .args .t1)
 
-enum-told : tie.Need-enum-told
-enum-told c = search needs
-
-figure-requires : tie.Need-figure-requires
-unfolding held
-figure-requires c κs =
-    let r = recordOf (c .before .before .before .before .before .before .before .before .before .before .args .t1) in
-    let ps = c .before .before .before .before .before .before .before .before .before .before .args .p .now in
-    let places : length (r .weights) ≡ mostPanel = search needs in
-    let a = admitted r ps (sym (c .before .before .before .before .before .judge-call .ensures) ∙ ap verdictOf (c .before .before .before .enum-told .given .1)) in
-    (units-fit r ps places a, reckonable r ps places a)
-
-judge-last-requires : tie.Need-judge-last-requires
-judge-last-requires c κs = search needs
-
-enum-known-last : tie.Need-enum-known-last
-enum-known-last c = search needs
-
-enum-told-2 : tie.Need-enum-told-2
-enum-told-2 c = search needs
+abbrev call : tie.After-reckon → Call
+call s = Call.quarter (start s .args .p .now)
 
 returns : tie.Need-returns
-unfolding answerOf after refusalOf
 returns c =
-    let r = recordOf (c .before .before .before .before .before .before .before .before .args .t1) in
-    let ps = c .before .before .before .before .before .before .before .before .args .p .now in
-    let why = c .before .entry .given .0 .0 in
-    let e : numberOf why ≡ callRefusal r ps 0 = sym (ap verdictOf (c .before .entry .given .1)) ∙ c .before .before .before .judge-call .ensures in
-    let n : refusalOf r (Call.quarter ps) ≡ numberOf why = call-stops r ps (lateRefusal r ps) why e in
-    (refused-answer _ (figureOf r ps) why n, refused-record _ r r why n)
+    let s = c .before .before .before .before in
+    let told = c .before .before .reckoned .given in
+    rw (c .refused .ensures) (refused-call (given s) (call s) (told .0 .0) (input-refused (given s) (call s) _ (s .reckon .ensures) _ (told .1)))
+
+-- with a figure only a late refusal is left
+refusal : (s : tie.After-reckoned2) →
+    let a = s .before .before in callRefusal (given a) (call a) ≡ verdictOf (s .reckoned2 .given .0 .1 .0)
+unfolding _then_
+refusal s =
+    let a = s .before .before in
+    refusal-is (given a) (call a) _ (a .reckon .ensures) _ _ (s .reckoned2 .given .1)
 
 returns-2 : tie.Need-returns-2
-unfolding answerOf after refusalOf lateRefusal held
 returns-2 c =
-    let r = recordOf (c .before .before .before .before .before .before .before .before .before .before .before .before .before .before .before .args .t1) in
-    let ps = c .before .before .before .before .before .before .before .before .before .before .before .before .before .before .before .args .p .now in
-    let why = c .before .last .given .0 .0 in
-    let goes = call-goes r ps (lateRefusal r ps) (sym (c .before .before .before .before .before .before .before .before .before .before .judge-call .ensures) ∙ ap verdictOf (c .before .before .before .before .before .before .before .before .enum-told .given .1)) in
-    let late = ap (λ (f : ℕ). lastRefusal f (r .closes)) (c .before .before .before .before .figure .ensures) in
-    let n : refusalOf r (Call.quarter ps) ≡ numberOf why = goes ∙ sym late ∙ sym (c .before .before .before .judge-last .ensures) ∙ ap verdictOf (c .before .last .given .1) in
-    (refused-answer _ (figureOf r ps) why n, refused-record _ r r why n)
+    let s = c .before .before .before .before .before in
+    let late = c .before .before .late .given in
+    rw (c .refused2 .ensures) (refused-call _ _ (late .0 .0) (sym (refusal s ∙ ap verdictOf (late .1))))
 
 returns-3 : tie.Need-returns-3
-unfolding answerOf after refusalOf lateRefusal held
 returns-3 c =
-    let r = recordOf (c .before .before .before .before .before .before .before .before .before .before .before .before .before .before .args .t1) in
-    let ps = c .before .before .before .before .before .before .before .before .before .before .before .before .before .before .args .p .now in
-    let goes = call-goes r ps (lateRefusal r ps) (sym (c .before .before .before .before .before .before .before .before .before .judge-call .ensures) ∙ ap verdictOf (c .before .before .before .before .before .before .before .enum-told .given .1)) in
-    let late = ap (λ (f : ℕ). lastRefusal f (r .closes)) (c .before .before .before .figure .ensures) in
-    let n : refusalOf r (Call.quarter ps) ≡ 0 = goes ∙ sym late ∙ sym (c .before .before .judge-last .ensures) ∙ ap verdictOf (c .enum-told2 .given .1) in
-    (figure-answer _ _ (figureOf r ps) n (c .before .before .before .figure .ensures), figure-record _ r r r n refl)
+    let s = c .before .before .before .before in
+    let a = s .before .before in
+    let f = figure-is (given a) (call a) _ (a .reckon .ensures) _ _ (s .reckoned2 .given .1) in
+    rw (c .figured .ensures) (accepted-call (given a) (call a) _ _ (refusal s ∙ ap verdictOf (c .before .enum-told .given .1)) f refl)
 
 pub quarter-spec : {M : Type 1} → statement M
 quarter-spec =
     tie.close
-    (tie.spec
-    judge-call-requires
-    enum-known-entry
-    enum-told
-    figure-requires
-    judge-last-requires
-    enum-known-last
-    enum-told-2
-    returns
-    returns-2
-    returns-3)
+    (tie.spec (λ c κs. search needs) (λ c. search needs) (λ c κs. search needs) (λ c. search needs) (λ c. search needs) (λ c κs. search needs)
+    (λ c. search needs) (λ c κs. search needs) returns returns-2 returns-3)

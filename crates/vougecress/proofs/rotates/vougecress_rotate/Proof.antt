@@ -1,55 +1,23 @@
--- `vougecress_rotate`: each arm by the definition at its variant; the buffers are as the inner entry leaves them.
-use mathlib.Core.Path.{sym, ap, _∙_}
-use Rattle.rotation.specs.declared.Answer.{Answer}
-use Rattle.rotation.specs.Answer.{answerOf}
+-- `vougecress_rotate`: each arm by the definition at its variant; the leavers are as the inner entry leaves them.
+use Rattle.rotation.specs.Answer.{answerFrom}
 use Rattle.vougecress.specs.Answers.{rotatedFrom}
+use Rattle.vougecress.proofs.Variants.{told}
 use borrow.Author.Needs.{needs}
 use Rattle.vougecress.proofs.rotates.vougecress_rotate.Statement.{statement}
 use Rattle.vougecress.proofs.rotates.vougecress_rotate.Tie as tie
 
-rotate-requires : tie.Need-rotate-requires
-rotate-requires c κs = search needs
-
-enum-known-answer : tie.Need-enum-known-answer
-enum-known-answer c = search needs
-
-enum-known-answer-2 : tie.Need-enum-known-answer-2
-enum-known-answer-2 c = search needs
-
-number-requires : tie.Need-number-requires
-number-requires c κs = search needs
-
-cast-t19 : tie.Need-cast-t19
-cast-t19 c = search needs
-
-same-length : tie.Need-same-length
-same-length c = search needs
-
 returns : tie.Need-returns
-returns c = (
-  sym (ap (λ (a : Answer). rotatedFrom (answerOf a)) (c .before .answer .given .1)) ∙ ap rotatedFrom (c .before .before .before .before .before .rotate .ensures .0),
-  c .before .before .before .before .before .rotate .ensures .1,
-)
-
-same-length-2 : tie.Need-same-length-2
-same-length-2 c = search needs
+returns c =
+    let t = c .before .before .before .before .before .rotate .ensures in
+    (told answerFrom rotatedFrom (c .before .answer .given .1) (t .0), t .1)
 
 returns-2 : tie.Need-returns-2
-returns-2 c = (
-  rw (c .number .ensures) (sym (ap (λ (a : Answer). rotatedFrom (answerOf a)) (c .before .before .answer2 .given .1)) ∙ ap rotatedFrom (c .before .before .before .before .before .before .rotate .ensures .0)),
-  c .before .before .before .before .before .before .rotate .ensures .1,
-)
+returns-2 c =
+    let t = c .before .before .before .before .before .before .rotate .ensures in
+    (rw (c .number .ensures) (told answerFrom rotatedFrom (c .before .before .answer2 .given .1) (t .0)), t .1)
 
 pub vougecress-rotate-spec : {M : Type 1} → statement M
 vougecress-rotate-spec =
     tie.close
-    (tie.spec
-    rotate-requires
-    enum-known-answer
-    enum-known-answer-2
-    number-requires
-    cast-t19
-    same-length
-    returns
-    same-length-2
-    returns-2)
+    (tie.spec (λ c κs. search needs) (λ c. search needs) (λ c. search needs) (λ c κs. search needs) (λ c. search needs) (λ c. search needs) returns
+    (λ c. search needs) returns-2)

@@ -1,72 +1,42 @@
 -- `vougecress_read`: what is read as the interface gives it, in each arm with the bytes that `taken` answers.
-use mathlib.Core.Path.{sym, ap, ap₂, _∙_}
-use Rattle.stream.specs.Value.{readingFrom}
-use Rattle.boundary.specs.Reads.{nothingRead}
+use mathlib.Core.Path.{_≡_, sym, ap, ap₂, _∙_}
+use Prim.Native.Nat.{ℕ}
+use Rattle.rules.specs.Refusals.{Judged}
+use Rattle.rules.specs.Stream.{Front}
+use Rattle.stream_read.specs.declared.Reading.{Reading}
+use Rattle.stream_read.specs.Value.{readingFrom}
+use Rattle.c_values.specs.Reads.{nothingRead}
 use Rattle.vougecress.specs.Streams.{readFrom}
 use Rattle.vougecress.proofs.Readings.{reads}
 use borrow.Author.Needs.{needs}
 use Rattle.vougecress.proofs.streams.vougecress_read.Statement.{statement}
 use Rattle.vougecress.proofs.streams.vougecress_read.Tie as tie
 
-taken-requires : tie.Need-taken-requires
-taken-requires c κs = search needs
-
-read-requires : tie.Need-read-requires
-read-requires c κs = search needs
-
-enum-known-reading : tie.Need-enum-known-reading
-enum-known-reading c = search needs
-
-command-read-requires : tie.Need-command-read-requires
-command-read-requires c κs = search needs
-
-enum-told : tie.Need-enum-told
-enum-told c = search needs
-
-nothing-read-requires : tie.Need-nothing-read-requires
-nothing-read-requires c κs = search needs
-
-enum-known-reading-2 : tie.Need-enum-known-reading-2
-enum-known-reading-2 c = search needs
-
-number-requires : tie.Need-number-requires
-number-requires c κs = search needs
-
-cast-nothing-read : tie.Need-cast-nothing-read
-cast-nothing-read c = search needs
-
-nothing-read-requires-2 : tie.Need-nothing-read-requires-2
-nothing-read-requires-2 c κs = search needs
+-- a reading that is known beside the bytes that it takes, as the interface gives it
+told : {x y : Reading} {j : Judged Front} {n m : ℕ} → x ≡ y → readingFrom x ≡ j → n ≡ m → readFrom (readingFrom y) n ≡ readFrom j m
+told same e bytes = ap₂ readFrom (sym (ap readingFrom same) ∙ e) bytes
 
 returns : tie.Need-returns
 returns c =
-    let told = sym (ap readingFrom (c .before .before .reading .given .1)) ∙ c .before .before .before .before .read .ensures in
-    reads (c .before .before .before .before .before .before .before .args .stream .now) _ (c .command-read .ensures ∙ ap₂ readFrom told (c .before .before .before .before .before .taken .ensures))
+    let r = c .before .before .before .before in
+    reads (r .before .before .before .args .stream .now) (c .command-read .result)
+    (c .command-read .ensures ∙ told (c .before .before .reading .given .1) (r .read .ensures) (r .before .taken .ensures))
 
 returns-2 : tie.Need-returns-2
 returns-2 c =
-    let told = sym (ap readingFrom (c .before .enum-told .given .1)) ∙ c .before .before .before .read .ensures in
-    reads (c .before .before .before .before .before .before .args .stream .now) _ (c .nothing-read .ensures ∙ ap₂ readFrom told (c .before .before .before .before .taken .ensures))
+    let r = c .before .before .before in
+    reads (r .before .before .before .args .stream .now) (c .nothing-read .result)
+    (c .nothing-read .ensures ∙ told (c .before .enum-told .given .1) (r .read .ensures) (r .before .taken .ensures))
 
 returns-3 : tie.Need-returns-3
 returns-3 c =
-    let told = sym (ap readingFrom (c .before .before .before .reading2 .given .1)) ∙ c .before .before .before .before .before .read .ensures in
-    reads (c .before .before .before .before .before .before .before .before .args .stream .now) _ (c .nothing-read2 .ensures ∙ ap nothingRead (c .before .number .ensures) ∙ ap₂ readFrom told (c .before .before .before .before .before .before .taken .ensures))
+    let r = c .before .before .before .before .before in
+    let known = told (c .before .before .before .reading2 .given .1) (r .read .ensures) (r .before .taken .ensures) in
+    reads (r .before .before .before .args .stream .now) (c .nothing-read2 .result)
+    (c .nothing-read2 .ensures ∙ ap nothingRead (c .before .number .ensures) ∙ known)
 
 pub vougecress-read-spec : {M : Type 1} → statement M
 vougecress-read-spec =
     tie.close
-    (tie.spec
-    taken-requires
-    read-requires
-    enum-known-reading
-    command-read-requires
-    enum-told
-    nothing-read-requires
-    enum-known-reading-2
-    number-requires
-    cast-nothing-read
-    nothing-read-requires-2
-    returns
-    returns-2
-    returns-3)
+    (tie.spec (λ c κs. search needs) (λ c κs. search needs) (λ c. search needs) (λ c κs. search needs) (λ c. search needs) (λ c κs. search needs)
+    (λ c. search needs) (λ c κs. search needs) (λ c. search needs) (λ c κs. search needs) returns returns-2 returns-3)

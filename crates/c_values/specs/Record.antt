@@ -1,0 +1,16 @@
+-- The chain record as a lent list of 103 places or more: units, index and closes, and then its 100 weights.
+use Prim.Native.Nat.{ℕ}
+use mathlib.Core.List.{List, _∷_}
+use lib.ListN.{getD, take, drop}
+use Rattle.rules.specs.Limits.{mostPanel}
+use Rattle.rules.specs.Chain.{Chain}
+
+abbrev pub recordPlaces : ℕ
+recordPlaces = 103
+
+abbrev pub recordIn : List ℕ → Chain
+recordIn xs =
+    record { weights = take mostPanel (drop 3 xs); units = getD xs 0 0; index = getD xs 1 0; closes = getD xs 2 0 }
+
+abbrev pub recordList : Chain → List ℕ
+recordList r = r .units ∷ r .index ∷ r .closes ∷ r .weights

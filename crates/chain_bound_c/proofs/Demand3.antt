@@ -1,0 +1,108 @@
+-- Demand 3 for a program in C: whatever vougecress_quarter and vougecress_close calls follow a vougecress_open that answers 0, on the same lent record,
+-- every answer is the one that document 01's rules give from the opened record on, and every figure is within the bound of the exact direct index.
+-- The record that a call leaves in the list is the one that the next call reads there (`Records`); the rest is `chain_bound`.
+use mathlib.Core.Path.{_≡_, refl, sym, ap, subst, _∙_}
+use mathlib.Core.List.{List}
+use Prim.Native.Nat.{ℕ, zero, suc, _≤_}
+use contract.Lifetimes.{Lfts}
+use denote.Ref.{RefT, now}
+use lib.ListN.{length}
+use borrow.Author.Tests.{le-ltb}
+use Rattle.rules.specs.Refusals.{Judged, refuse, judged, stays, written}
+use Rattle.rules.specs.Chain.{Chain, Call, openRefusal, openRecord, openAnswer, callRefusal, callAnswer, figureOf, relatives, accepted, after, answers}
+use Rattle.rules.specs.Direct.{directOpen, AllWithin}
+use Rattle.rules.proofs.Refusals.{then-none, then-goes, judged-given}
+use Rattle.chain_bound.specs.Trace.{Trace}
+use Rattle.chain_bound.proofs.Demand3.{demand3-trace}
+use Rattle.c_values.specs.declared.Figure.{Figure}
+use Rattle.c_values.specs.Figures.{figureFrom}
+use Rattle.c_values.specs.Record.{recordPlaces, recordIn, recordList}
+use Rattle.vougecress.specs.Record.{listRefusal, listAnswer, listAfter, openedNumber, openedList}
+use Rattle.vougecress.proofs.records.vougecress_open.Reads as open-reads
+use Rattle.vougecress.proofs.figures.vougecress_quarter.Reads as quarter-reads
+use Rattle.vougecress.proofs.records.vougecress_close.Reads as close-reads
+use Rattle.chain_bound_c.specs.Lent.{OpenMade, CallsMade, answersIn}
+use Rattle.chain_bound_c.proofs.Records.{Full, read-back, room-again, left-in, full-in, full-open, full-after}
+
+-- None of the three asks anything of its caller: every list of calls can be made.
+pub open-asks : (κs : Lfts 4) (w g a lent : RefT (List ℕ)) (start : ℕ) → open-reads.Asked κs (w, (g, (a, (start, (lent, tt)))))
+open-asks κs w g a lent start = tt
+
+pub quarter-asks : (κs : Lfts 2) (lent p : RefT (List ℕ)) → quarter-reads.Asked κs (lent, (p, tt))
+quarter-asks κs lent p = tt
+
+pub close-asks : (κs : Lfts 2) (lent p : RefT (List ℕ)) → close-reads.Asked κs (lent, (p, tt))
+close-asks κs lent p = tt
+
+-- a figure holds the answer that it was made of
+judged-in : (n f : ℕ) → judged (figureFrom (judged n f) .refusal) (figureFrom (judged n f) .figure) ≡ judged n f
+judged-in zero f = refl
+judged-in (suc n) f = refl
+
+-- ---- a list with room for a record
+module _ (xs : List ℕ) (room : recordPlaces ≤ length xs) (call : Call) where
+  -- the list itself is no reason to refuse
+  refusal-in : listRefusal xs call ≡ callRefusal (recordIn xs) call
+  unfolding listRefusal refuse
+  refusal-in = rw (le-ltb (length xs) recordPlaces room) (then-goes 0 _ refl)
+
+  -- a caller reads document 01's answer off the figure
+  answer-in : (r : Figure) → r ≡ figureFrom (listAnswer xs call) → judged (r .refusal) (r .figure) ≡ callAnswer (recordIn xs) call
+  unfolding listAnswer callAnswer
+  answer-in r e = rw (e, refusal-in) (judged-in (callRefusal (recordIn xs) call) (figureOf (recordIn xs) (relatives call)))
+
+  -- the list after a call holds the record after it, and has room again
+  after-in : (ys : List ℕ) → ys ≡ listAfter xs call → (recordIn ys ≡ after (recordIn xs) call) × (recordPlaces ≤ length ys)
+  unfolding listAfter after
+  after-in ys e =
+      rw (e, refusal-in) (left-in (callRefusal (recordIn xs) call) xs (accepted (recordIn xs) call) room (full-after (recordIn xs) (full-in xs room) call))
+
+-- a quarter leaves the record
+quarter-keeps : (r : Chain) (ps : List ℕ) → r ≡ after r (Call.quarter ps)
+unfolding after
+quarter-keeps r ps = go (callRefusal r (Call.quarter ps))
+  where
+    go : (n : ℕ) → r ≡ stays n r r
+    go zero = refl
+    go (suc n) = refl
+
+-- calls on a lent record are a trace of the definitions
+trace : {xs : List ℕ} {calls : List Call} {given : List Figure} → recordPlaces ≤ length xs → CallsMade xs calls given → Trace (recordIn xs) calls (answersIn given)
+unfolding answersIn
+trace room CallsMade.done = Trace.done
+trace room (CallsMade.quarter {xs = xs} {p = p} {r = r} m rest) =
+    let call = Call.quarter (now p) in
+    let told : r ≡ figureFrom (listAnswer xs call) = rw (← (m .holds)) (m .learnt) in
+    Trace.next (record { answers = answer-in xs room call r told; leaves = quarter-keeps (recordIn xs) (now p) }) (trace room rest)
+trace room (CallsMade.close {xs = xs} {ys = ys} {p = p} {r = r} m rest) =
+    let call = Call.close (now p) in
+    let told : r ≡ figureFrom (listAnswer xs call) = rw (← (m .holds)) (m .learnt .0) in
+    let left : ys ≡ listAfter xs call = sym (m .leaves) ∙ m .learnt .1 ∙ ap (λ (l : List ℕ). listAfter l call) (m .holds) in
+    let next = after-in xs room call ys left in
+    Trace.next (record { answers = answer-in xs room call r told; leaves = next .0 }) (trace (next .1) rest)
+
+-- The theorem: w, g, a and start are what the open was handed, ys is what it left in the lent list.
+pub demand3 : (w g a lent : RefT (List ℕ)) (start : ℕ) (ys : List ℕ) → OpenMade w g a lent start 0 ys →
+    (calls : List Call) (given : List Figure) → CallsMade ys calls given →
+    (answersIn given ≡ answers (openRecord (now w) (now g) (now a) start) calls) × AllWithin (directOpen (now w) (now g) (now a) start) calls (answersIn given)
+unfolding openedNumber openedList openAnswer
+demand3 w g a lent start ys made calls given follow =
+    demand3-trace (now w) (now g) (now a) start (recordIn ys) (judged-given _ _ accepts ∙ ap Judged.given (sym holds)) calls (answersIn given) (trace room follow)
+  where
+    opened : Chain
+    opened = openRecord (now w) (now g) (now a) start
+
+    accepts : openRefusal (now w) (now g) (now a) start ≡ 0
+    accepts = then-none _ _ (sym (made .learnt .0)) .1
+
+    left : ys ≡ written 0 (recordList opened) (now lent)
+    left = sym (made .leaves) ∙ made .learnt .1 ∙ ap (λ (n : ℕ). written n (recordList opened) (now lent)) (sym (made .learnt .0))
+
+    full : Full opened
+    full = full-open (now w) (now g) (now a) start accepts
+
+    holds : recordIn ys ≡ opened
+    holds = ap recordIn left ∙ read-back opened (now lent) full
+
+    room : recordPlaces ≤ length ys
+    room = subst (λ (l : List ℕ). recordPlaces ≤ length l) (sym left) (room-again opened (now lent) full)

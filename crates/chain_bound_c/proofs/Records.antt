@@ -1,0 +1,67 @@
+-- A record with a place for each unit of the largest panel: an open makes one, each call keeps it so, and the list in which it was laid holds it.
+use mathlib.Core.Path.{_≡_, refl, ap, _∙_}
+use mathlib.Core.List.{List}
+use Prim.Native.Nat.{ℕ, zero, suc, _-_, _≤_}
+use native.Mathlib.Omega.{arith}
+use lib.ListN.{length, drop, replicate, length-append, length-drop, length-replicate}
+use lib.Seq.{length-take-le, take-at}
+use Rattle.rules.specs.Limits.{mostPanel}
+use Rattle.rules.specs.Refusals.{stays, written}
+use Rattle.rules.specs.Chain.{Chain, Call, held, opening, moved, openRefusal, openRecord, callRefusal, accepted, after}
+use Rattle.rules.proofs.Refusals.{then-none}
+use Rattle.rules.proofs.Chains.{openable, admitted}
+use Rattle.chain_bound.proofs.Accepted.{accepted-open, closed-reached, reached-length}
+use Rattle.c_values.specs.Record.{recordPlaces, recordIn, recordList}
+
+abbrev pub Full : Chain → Type 0
+Full r = length (r .weights) ≡ mostPanel
+
+-- The record survives the lent list: what an open or a close lays there is read back as it was.
+pub read-back : (r : Chain) (xs : List ℕ) → Full r → recordIn (written 0 (recordList r) xs) ≡ r
+read-back r xs full =
+    ap (λ (l : List ℕ). record { weights = l; units = r .units; index = r .index; closes = r .closes })
+    (take-at (r .weights) _ mostPanel full)
+
+-- and the list has room for the next one
+pub room-again : (r : Chain) (xs : List ℕ) → Full r → recordPlaces ≤ length (written 0 (recordList r) xs)
+room-again r xs full = omega (arith, full, length-append (r .weights) (drop (length (recordList r)) xs))
+
+-- so does the list after a call with refusal n: the record that it holds is the next one, or the one that it held
+pub left-in : (n : ℕ) (xs : List ℕ) (next : Chain) → recordPlaces ≤ length xs → Full (stays n (recordIn xs) next) →
+    (recordIn (written n (recordList next) xs) ≡ stays n (recordIn xs) next) × (recordPlaces ≤ length (written n (recordList next) xs))
+left-in zero xs next room full = (read-back next xs full, room-again next xs full)
+left-in (suc n) xs next room full = (refl, room)
+
+pub full-in : (xs : List ℕ) → recordPlaces ≤ length xs → Full (recordIn xs)
+full-in xs long = length-take-le mostPanel (drop 3 xs) (omega (arith, long, length-drop 3 xs))
+
+pub full-open : (ws gs rs : List ℕ) (start : ℕ) → openRefusal ws gs rs start ≡ 0 → Full (openRecord ws gs rs start)
+unfolding openRecord openRefusal
+full-open ws gs rs start e =
+    let most = openable ws gs rs start (then-none _ _ e .0) .lists .most in
+    let rest = mostPanel - length ws in
+    omega (
+      arith,
+      most,
+      accepted-open ws gs rs start e .long,
+      length-append (opening ws gs rs) (replicate rest 0),
+      length-replicate {A = ℕ} rest 0,
+    )
+
+module _ (r : Chain) (full : Full r) where
+  full-accepted : (call : Call) → callRefusal r call ≡ 0 → Full (accepted r call)
+  unfolding callRefusal held
+  full-accepted (Call.quarter ps) e = full
+  full-accepted (Call.close ps) e =
+      let a = admitted r ps (then-none _ _ e .0) in
+      let units = length-take-le (r .units) (r .weights) (omega (arith, full, a .sound .most)) in
+      let new = reached-length (closed-reached r units ps e) ∙ a .long in
+      omega (arith, full, new, a .sound .most, length-append (moved r ps) (drop (r .units) (r .weights)), length-drop (r .units) (r .weights))
+
+  pub full-after : (call : Call) → Full (after r call)
+  unfolding after
+  full-after call = go (callRefusal r call) refl
+    where
+      go : (n : ℕ) → callRefusal r call ≡ n → Full (stays n r (accepted r call))
+      go zero e = full-accepted call e
+      go (suc n) e = full

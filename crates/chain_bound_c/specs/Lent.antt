@@ -1,0 +1,55 @@
+-- Document 01, demand 3, for a program in C: calls of `vougecress_open`, `vougecress_quarter` and `vougecress_close` on a lent record that nobody else
+-- writes, so that each call finds the list as the call before it left it. Of a call is known what Rattle lets its caller know: `Learnt` of the
+-- module `Reads` that it makes of the function's own `ensures`.
+use Prim.Native.Nat.{ℕ}
+use mathlib.Core.Path.{_≡_}
+use mathlib.Core.List.{List, [], _∷_}
+use contract.Lifetimes.{Lfts}
+use denote.Ref.{RefT, now}
+use denote.Triple.Clauses.{AtExit}
+use Rattle.rules.specs.Refusals.{Judged, judged}
+use Rattle.rules.specs.Chain.{Call}
+use Rattle.c_values.specs.declared.Figure.{Figure}
+use Rattle.vougecress.proofs.records.vougecress_open as open-contract
+use Rattle.vougecress.proofs.records.vougecress_open.Reads as open-reads
+use Rattle.vougecress.proofs.figures.vougecress_quarter as quarter-contract
+use Rattle.vougecress.proofs.figures.vougecress_quarter.Reads as quarter-reads
+use Rattle.vougecress.proofs.records.vougecress_close as close-contract
+use Rattle.vougecress.proofs.records.vougecress_close.Reads as close-reads
+
+-- `vougecress_open` of the lists w, g and a, of start and of the lent list returned n and left ys in the lent list; `now w` is what w holds.
+pub record OpenMade (w g a lent : RefT (List ℕ)) (start n : ℕ) (ys : List ℕ) : Type 0 where
+  pub lifetimes : Lfts 4
+  pub end : AtExit open-contract.ended lifetimes
+  pub leaves : now (end .1 .1 .1 .1 .0) ≡ ys
+  pub learnt : open-reads.Learnt lifetimes (w, (g, (a, (start, (lent, tt))))) n end
+
+-- `vougecress_quarter` of a lent list that holds xs and of the list p returned r
+pub record QuarterMade (xs : List ℕ) (p : RefT (List ℕ)) (r : Figure) : Type 0 where
+  pub lifetimes : Lfts 2
+  pub lent : RefT (List ℕ)
+  pub holds : now lent ≡ xs
+  pub end : AtExit quarter-contract.ended lifetimes
+  pub learnt : quarter-reads.Learnt lifetimes (lent, (p, tt)) r end
+
+-- `vougecress_close` of a lent list that holds xs and of the list p returned r and left ys in the lent list
+pub record CloseMade (xs : List ℕ) (p : RefT (List ℕ)) (r : Figure) (ys : List ℕ) : Type 0 where
+  pub lifetimes : Lfts 2
+  pub lent : RefT (List ℕ)
+  pub holds : now lent ≡ xs
+  pub end : AtExit close-contract.ended lifetimes
+  pub leaves : now (end .0) ≡ ys
+  pub learnt : close-reads.Learnt lifetimes (lent, (p, tt)) r end
+
+-- Calls made one after the other on a lent list, what they ask, and what they answer.
+pub data CallsMade : List ℕ → List Call → List Figure → Type 0 where
+  done : {xs : List ℕ} → CallsMade xs [] []
+  quarter : {xs : List ℕ} {p : RefT (List ℕ)} {r : Figure} {calls : List Call} {later : List Figure} →
+      QuarterMade xs p r → CallsMade xs calls later → CallsMade xs (Call.quarter (now p) ∷ calls) (r ∷ later)
+  close : {xs ys : List ℕ} {p : RefT (List ℕ)} {r : Figure} {calls : List Call} {later : List Figure} →
+      CloseMade xs p r ys → CallsMade ys calls later → CallsMade xs (Call.close (now p) ∷ calls) (r ∷ later)
+
+-- the answers as a caller reads them: a refusal other than 0, or the figure
+unfoldable pub answersIn : List Figure → List (Judged ℕ)
+answersIn [] = []
+answersIn (f ∷ rest) = judged (f .refusal) (f .figure) ∷ answersIn rest

@@ -1,0 +1,40 @@
+-- `Learnt` is what the code gives, and no hypothesis: of each of the three functions, called by its name, a caller knows it by the function's own theorem.
+use mathlib.Core.Path.{_≡_}
+use mathlib.Core.List.{List}
+use Prim.Native.Nat.{ℕ}
+use mir.Syntax.{Name}
+use prog.Routine.{Env}
+use contract.Running.{givenOf}
+use borrow.Fn.Kind.{PK, RK}
+use borrow.Fn.Kinds.{In, Out}
+use borrow.Fn.Plain.{Known}
+use borrow.Fn.Run.{Over}
+use borrow.Fn.World.{World}
+use Rattle.chain.proofs.Chain.quarter.Kinds as quarter-kinds
+use Rattle.chain.proofs.Chain.quarter.Reads as quarter-reads
+use Rattle.chain.proofs.Chain.quarter.Met as quarter-theorem
+use Rattle.chain.proofs.Chain.quarter.Symbol as quarter-symbol
+use Rattle.chain.proofs.Chain.close.Kinds as close-kinds
+use Rattle.chain.proofs.Chain.close.Reads as close-reads
+use Rattle.chain.proofs.Chain.close.Met as close-theorem
+use Rattle.chain.proofs.Chain.close.Symbol as close-symbol
+use Rattle.chain_open.proofs.«open».Kinds as open-kinds
+use Rattle.chain_open.proofs.«open».Reads as open-reads
+use Rattle.chain_open.proofs.«open».Met as open-theorem
+use Rattle.chain_open.proofs.«open».Symbol as open-symbol
+
+-- in any model w of the machine, and any environment γ in which the function's name means its code
+module _ (w : World) (γ : Env) where
+  abbrev KnownBy : (n : ℕ) (ps : List (PK n)) (r : RK n) → In n ps → Out n ps r → Name → Type 1
+  KnownBy = Known (w .𝓤) (w .H) (w .𝓖 .A) (givenOf (w .𝓤) (w .H) (w .𝓜) (w .𝓖)) (Over (w .𝓤) (w .H) (w .𝓜) (w .𝓖) (w .𝓡) γ)
+
+  pub open-known : γ open-symbol.name ≡ open-symbol.routine → KnownBy 3 open-kinds.ps open-kinds.r open-reads.Asked open-reads.Learnt open-symbol.name
+  open-known same = open-reads.known w γ open-symbol.name open-symbol.routine same (open-theorem.met (w .𝓤) (w .H) (w .𝓜) (w .𝓖) (w .𝓡))
+
+  pub quarter-known : γ quarter-symbol.name ≡ quarter-symbol.routine →
+      KnownBy 1 quarter-kinds.ps quarter-kinds.r quarter-reads.Asked quarter-reads.Learnt quarter-symbol.name
+  quarter-known same = quarter-reads.known w γ quarter-symbol.name quarter-symbol.routine same (quarter-theorem.met (w .𝓤) (w .H) (w .𝓜) (w .𝓖) (w .𝓡))
+
+  pub close-known : γ close-symbol.name ≡ close-symbol.routine →
+      KnownBy 1 close-kinds.ps close-kinds.r close-reads.Asked close-reads.Learnt close-symbol.name
+  close-known same = close-reads.known w γ close-symbol.name close-symbol.routine same (close-theorem.met (w .𝓤) (w .H) (w .𝓜) (w .𝓖) (w .𝓡))

@@ -1,0 +1,52 @@
+-- Document 01, demand 3: calls that a program makes of `chain_open::open`, `Chain::quarter` and `Chain::close`, each handed the record that the call
+-- before it handed back. Of a call is known what Rattle lets its caller know: `Learnt` of the module `Reads` that it makes of the function's own
+-- `ensures`. No line here repeats a contract.
+use Prim.Native.Nat.{ℕ}
+use mathlib.Core.List.{List, [], _∷_}
+use contract.Lifetimes.{Lfts}
+use denote.Ref.{RefT, now}
+use denote.Triple.Clauses.{AtExit}
+use Rattle.rules.specs.Refusals.{Judged}
+use Rattle.rules.specs.Chain.{Call}
+use Rattle.chain.specs.Record.{answerFrom}
+use Rattle.chain.specs.declared.Chain.{Chain}
+use Rattle.chain.specs.declared.Answer.{Answer}
+use Rattle.chain.specs.declared.Answered.{Answered}
+use Rattle.chain.proofs.Chain.quarter as quarter-contract
+use Rattle.chain.proofs.Chain.quarter.Reads as quarter-reads
+use Rattle.chain.proofs.Chain.close as close-contract
+use Rattle.chain.proofs.Chain.close.Reads as close-reads
+use Rattle.chain_open.specs.declared.Opened.{Opened}
+use Rattle.chain_open.proofs.«open» as open-contract
+use Rattle.chain_open.proofs.«open».Reads as open-reads
+
+-- `chain_open::open` of the slices w, g and a and of start returned o; `now w` is what w holds.
+pub record OpenMade (w g a : RefT (List ℕ)) (start : ℕ) (o : Opened) : Type 0 where
+  pub lifetimes : Lfts 3
+  pub end : AtExit open-contract.ended lifetimes
+  pub learnt : open-reads.Learnt lifetimes (w, (g, (a, (start, tt)))) o end
+
+-- `Chain::quarter` of c and the slice p returned r
+pub record QuarterMade (c : Chain) (p : RefT (List ℕ)) (r : Answered) : Type 0 where
+  pub lifetimes : Lfts 1
+  pub end : AtExit quarter-contract.ended lifetimes
+  pub learnt : quarter-reads.Learnt lifetimes (c, (p, tt)) r end
+
+-- `Chain::close` of c and the slice p returned r
+pub record CloseMade (c : Chain) (p : RefT (List ℕ)) (r : Answered) : Type 0 where
+  pub lifetimes : Lfts 1
+  pub end : AtExit close-contract.ended lifetimes
+  pub learnt : close-reads.Learnt lifetimes (c, (p, tt)) r end
+
+-- Calls made one after the other from a record, what they ask, and what they answer.
+pub data CallsMade : Chain → List Call → List Answer → Type 0 where
+  done : {c : Chain} → CallsMade c [] []
+  quarter : {c : Chain} {p : RefT (List ℕ)} {r : Answered} {calls : List Call} {later : List Answer} →
+      QuarterMade c p r → CallsMade (r .chain) calls later → CallsMade c (Call.quarter (now p) ∷ calls) (r .answer ∷ later)
+  close : {c : Chain} {p : RefT (List ℕ)} {r : Answered} {calls : List Call} {later : List Answer} →
+      CloseMade c p r → CallsMade (r .chain) calls later → CallsMade c (Call.close (now p) ∷ calls) (r .answer ∷ later)
+
+-- the answers as document 01 has them
+unfoldable pub answersFrom : List Answer → List (Judged ℕ)
+answersFrom [] = []
+answersFrom (a ∷ rest) = answerFrom a ∷ answersFrom rest

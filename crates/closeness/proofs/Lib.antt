@@ -1,7 +1,0 @@
-pub mod Near
-pub mod Ratio
-pub mod Weights
-pub mod Judged
-pub mod Carried
-pub mod Demand3
-pub mod Cases

@@ -1,0 +1,64 @@
+// Random numbers and keys (document 01, "Draw"; 001, formulas 21 and 22). A key is a fraction of two 64-bit products, compared
+// exactly by crate `draw_fraction`; what limits of the frame make the products fit is asked for in `requires`.
+use draw_fraction::Fraction;
+use limits::RANDOM_RANGE;
+ghost use mathlib.Core.Path.{_≡_};
+ghost use Prim.Native.Nat.{_-_, _*_, _<_, _≤_};
+ghost use lib.ListN.{length};
+ghost use Rattle.rules.specs.Limits.{mostTurnover, randomRange, mostPanel};
+ghost use Rattle.rules.specs.Draw.{shifted, keyDenominator};
+ghost use Rattle.draw_key.specs.Units.{Units, UnitKey};
+
+// A unit's random number as drawn, R: permanent, the same under every start.
+pub struct Permanent(pub u32);
+
+// The random number as counted from a start, r: another quantity, though also below 1,000,000.
+pub struct Shifted(pub u32);
+
+impl Permanent {
+    // "r = R − s, plus 1,000,000 if R < s" (formula 21): the only way from the one to the other.
+    pub fn shift(self, start: u32) -> Shifted
+        requires { ⌜ (self .0 < randomRange) × (start < randomRange) ⌝ }
+        ensures { λ r. ⌜ r .0 ≡ shifted start (self .0) ⌝ }
+    {
+        if self.0 < start {
+            return Shifted(self.0 + RANDOM_RANGE - start);
+        }
+        Shifted(self.0 - start)
+    }
+}
+
+// X − n × turnover: the part of a key that no start changes, so that a rotation computes it once a unit.
+pub fn gap(turnover: u64, rest: u64, size: u64) -> u64
+    requires { ⌜ (turnover ≤ mostTurnover) × (size ≤ mostPanel) ⌝ }
+    ensures { λ r. ⌜ r ≡ rest - size * turnover ⌝ }
+{
+    let reached = size * turnover;
+    if rest < reached {
+        return 0;
+    }
+    rest - reached
+}
+
+// "r × (X − n × turnover) over (1,000,000 − r) × turnover" (formula 22 without the common factor n), where the gap is known.
+pub fn key_over(turnover: u64, r: Shifted, gap: u64) -> Fraction
+    requires { ⌜ (turnover ≤ mostTurnover) × (r .0 < randomRange) × (gap ≤ mostTurnover) ⌝ }
+    ensures { λ k. ⌜ (k .num ≡ r .0 * gap) × (k .den ≡ keyDenominator turnover (r .0)) ⌝ }
+{
+    let near = r.0 as u64;
+    let far = (RANDOM_RANGE - r.0) as u64;
+    Fraction {
+        num: near * gap,
+        den: far * turnover,
+    }
+}
+
+// The key of unit i, of which the gap is known.
+pub fn unit_key(turnovers: &[u64], randoms: &[u32], gaps: &[u64], start: u32, i: usize) -> Fraction
+    requires { ⌜ Units (now turnovers) (now randoms) (now gaps) start × (i < length (now turnovers)) ⌝ }
+    ensures { λ f. ⌜ UnitKey (now (turnovers .entry)) (now (randoms .entry)) (now (gaps .entry)) start i f ⌝ }
+{
+    let random = Permanent(randoms[i]);
+    let shifted = random.shift(start);
+    key_over(turnovers[i], shifted, gaps[i])
+}

@@ -1,0 +1,4 @@
+pub mod Panel
+pub mod Short
+pub mod Next
+pub mod Writing

@@ -1,0 +1,3 @@
+pub mod ByGaps
+pub mod Terms
+pub mod Accepted

@@ -1,2 +1,0 @@
-pub mod Sound
-pub mod Reckoning

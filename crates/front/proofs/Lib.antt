@@ -1,3 +1,0 @@
-pub mod Slice
-pub mod Held
-pub mod FrontCall

@@ -1,0 +1,3 @@
+pub mod FirstPlaces
+pub mod Jobs
+pub mod Steps

@@ -1,3 +1,0 @@
-pub mod Leaving
-pub mod Search
-pub mod Buffer

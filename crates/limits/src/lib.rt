@@ -1,0 +1,79 @@
+// Document 01's limits and scales as the code has them, each once, and the tests that several refusals share.
+// The definitions' own are in `rules` (specs/Limits.antt); the proof of each function that uses one ties the two, so that a number that differs is
+// refused. The range and the scale of a relative belong to its type (crate `chain_relative`).
+ghost use mathlib.Core.Path.{_≡_};
+ghost use Rattle.rules.specs.Chain.{badIndex, badUnits};
+
+// ---- frame and draw
+// Units in a frame.
+pub const MOST_FRAME: usize = 16384;
+
+// Euros in a frame.
+pub const MOST_TURNOVER: u64 = 1_000_000_000_000;
+
+// A random number is below this, and so is a start.
+pub const RANDOM_RANGE: u32 = 1_000_000;
+
+// Units in a panel, and places of a chain record.
+pub const MOST_PANEL: usize = 100;
+
+// ---- rotation
+// A fraction of 1, in thousandths.
+pub const FRACTION_SCALE: u32 = 1000;
+
+// Steps that are tried, and how far a step moves the start.
+pub const STEPS: u32 = 1000;
+
+pub const STEP_LENGTH: u32 = 1000;
+
+// ---- chain
+// A share of 1. Weights are 64-bit, and so is what divides them.
+pub const SHARE_SCALE: u64 = 10_000;
+
+// L is a mean relative times this.
+pub const LINK_SCALE: u64 = 10_000;
+
+// The least u or v of a present unit.
+pub const LEAST_WEIGHT: u64 = 1_000_000;
+
+// The sum of W, and of v.
+pub const MOST_WEIGHT: u64 = 100_000_000_000_000;
+
+// An index; 100 is 1,000,000,000.
+pub const LOWEST_INDEX: u64 = 100_000_000;
+
+pub const HIGHEST_INDEX: u64 = 10_000_000_000;
+
+pub const MOST_CLOSES: u64 = 40;
+
+// ---- total
+pub const MOST_SECTORS: usize = 64;
+
+// A sector share of 1, in millionths.
+pub const SECTOR_SCALE: u64 = 1_000_000;
+
+// ---- job stream
+// Bytes of a stream, and units that a job holds.
+pub const MOST_STREAM: usize = 32768;
+
+pub const MOST_HELD: usize = 1024;
+
+// The range of an index, which 12, 14, 19 and 23 share.
+pub fn bad_index(c: u64) -> bool
+    ensures { λ r. ⌜ r ≡ badIndex c ⌝ }
+{
+    if c < LOWEST_INDEX {
+        return true;
+    }
+    HIGHEST_INDEX < c
+}
+
+// 9: a number of units that is 0 or over a panel.
+pub fn bad_units(n: usize) -> bool
+    ensures { λ r. ⌜ r ≡ badUnits n ⌝ }
+{
+    if n == 0 {
+        return true;
+    }
+    MOST_PANEL < n
+}

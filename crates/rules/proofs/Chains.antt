@@ -1,0 +1,96 @@
+-- What an open and a call that the tests of their input let pass have (specs/Chain.antt): each test that did not refuse, as a fact.
+use mathlib.Core.Path.{_≡_}
+use mathlib.Core.Bool.{false}
+use mathlib.Core.List.{List}
+use Prim.Native.Nat.{ℕ, _<_, _≤_}
+use native.Mathlib.Nat.{pos-of-ne-zero}
+use lib.Dec.{ltb}
+use lib.ListN.{length}
+use borrow.Author.Tests.{ltb-false, eqb-true, eqb-false, not-false}
+use Rattle.rules.specs.Limits.{shareScale, mostPanel, mostWeight, mostCloses, highestIndex}
+use Rattle.rules.specs.Lists.{sum, anyOf, anyPair}
+use Rattle.rules.specs.Chain.{Chain, held, badUnits, badIndex, badRelative, badOpenLists, badBase, badShares, openInputRefusal, broken, callInputRefusal}
+use Rattle.rules.proofs.Tests.{or-false, within}
+use Rattle.rules.proofs.Refusals.{refuse-none, then-none}
+
+pub units-most : (n : ℕ) → badUnits n ≡ false → n ≤ mostPanel
+unfolding badUnits
+units-most n e = ltb-false mostPanel n (or-false _ _ e .1)
+
+-- ---- open
+-- 9 does not apply: lists of one length, at most a panel
+pub record Even (ws gs rs : List ℕ) : Type 0 where
+  pub most : length ws ≤ mostPanel
+  pub shares : length gs ≡ length ws
+  pub relatives : length rs ≡ length ws
+
+-- nor do 10 to 13
+pub record Openable (ws gs rs : List ℕ) : Type 0 where
+  pub lists : Even ws gs rs
+  pub limit : sum ws ≤ mostWeight
+  pub shares : anyOf (λ g. ltb shareScale g) gs ≡ false
+  pub relatives : anyPair badRelative gs rs ≡ false
+
+module _ (ws gs rs : List ℕ) where
+  pub even : badOpenLists ws gs rs ≡ false → Even ws gs rs
+  unfolding badOpenLists
+  even e =
+      let units : _ = or-false _ _ (or-false _ _ e .0) in
+      record {
+        most = units-most (length ws) (units .0);
+        shares = eqb-true _ _ (not-false _ (units .1));
+        relatives = eqb-true _ _ (not-false _ (or-false _ _ e .1));
+      }
+
+  pub openable : (start : ℕ) → openInputRefusal ws gs rs start ≡ 0 → Openable ws gs rs
+  unfolding openInputRefusal badBase badShares
+  openable start e =
+      let lists : _ = then-none _ _ e in
+      let base : _ = then-none _ _ (lists .1) in
+      let shares : _ = then-none _ _ (base .1) in
+      record {
+        lists = even (refuse-none _ 8 (lists .0));
+        limit = ltb-false _ _ (or-false _ _ (refuse-none _ 9 (base .0)) .1);
+        shares = or-false _ _ (refuse-none _ 10 (shares .0)) .0;
+        relatives = refuse-none _ 12 (then-none _ _ (shares .1) .1);
+      }
+
+-- ---- quarter and close
+-- 19 does not apply: a record within its limits
+pub record Sound (r : Chain) : Type 0 where
+  pub most : r .units ≤ mostPanel
+  pub closes : r .closes ≤ mostCloses
+  pub index : r .index ≤ highestIndex
+  pub present : 0 < sum (held r)
+  pub limit : sum (held r) ≤ mostWeight
+
+pub sound : (r : Chain) → broken r ≡ false → Sound r
+unfolding broken badIndex
+sound r e =
+    let present : _ = or-false _ _ (or-false _ _ e .0) in
+    let index : _ = or-false _ _ (or-false _ _ (present .0) .0) in
+    let closes : _ = or-false _ _ (index .0) in
+    record {
+      most = units-most (r .units) (closes .0);
+      closes = ltb-false _ _ (closes .1);
+      index = within _ _ _ (index .1) .1;
+      present = pos-of-ne-zero (eqb-false _ _ (present .1));
+      limit = ltb-false _ _ (or-false _ _ e .1);
+    }
+
+-- nor do 9 and 13
+pub record Admitted (r : Chain) (ps : List ℕ) : Type 0 where
+  pub sound : Sound r
+  pub long : length ps ≡ r .units
+  pub relatives : anyPair badRelative (held r) ps ≡ false
+
+pub admitted : (r : Chain) (ps : List ℕ) → callInputRefusal r ps ≡ 0 → Admitted r ps
+unfolding callInputRefusal
+admitted r ps e =
+    let state : _ = then-none _ _ e in
+    let lists : _ = then-none _ _ (state .1) in
+    record {
+      sound = sound r (refuse-none _ 18 (state .0));
+      long = eqb-true _ _ (not-false _ (refuse-none _ 8 (lists .0)));
+      relatives = refuse-none _ 12 (lists .1);
+    }

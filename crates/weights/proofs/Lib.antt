@@ -1,3 +1,0 @@
-pub mod Capped
-pub mod Units
-pub mod Marks

@@ -1,0 +1,37 @@
+"""The refusals in words.
+
+docs/REFUSALS.md, README.md, the code's enum and include/vougecress.h have the same (tests/test_refusals.py).
+"""
+
+# number -> the name of the enum's variant, and document 01's words
+REFUSALS = {
+    1: ("FrameLists", "frame lists unequal, empty or over 16,384"),
+    2: ("UnitNumbers", "unit numbers not rising"),
+    3: ("Turnovers", "a turnover 0, or total over 10^12"),
+    4: ("RandomNumbers", "random number or start over 999,999"),
+    5: ("PanelSize", "z is 0, over 100 or over the units"),
+    6: ("ResultBuffer", "a result buffer shorter than z, or for leavers than the old panel"),
+    7: ("OldPanel", "f over 1,000, or old panel over 100 or not rising"),
+    8: ("NoStep", "no step rotates enough"),
+    9: ("UnitLists", "unit lists empty, over 100, or unequal to each other or to the record"),
+    10: ("BaseWeights", "a W of 0, or their sum over 10^14"),
+    11: ("Shares", "a share over 10,000, or all 0"),
+    12: ("StartIndex", "start index outside 10^8 to 10^10"),
+    13: ("Relatives", "a relative out of range, 0 for a present unit, or not 0 for an absent one"),
+    14: ("Sectors", "sector lists unequal, empty, over 64, not adding to 1,000,000, or an index outside 12's range"),
+    15: ("StreamLength", "stream over 32,768 bytes"),
+    16: ("UnknownCommand", "command not 1 to 7"),
+    17: ("CutShort", "command cut short"),
+    18: ("Place", "place not below panel size"),
+    19: ("State", "open without a panel, quarter or close without a chain; a record that breaks a limit"),
+    20: ("FrameFull", "a unit when 1,024 are held"),
+    21: ("LowWeight", "a present u or v below 1,000,000, at open or after close"),
+    22: ("WeightSum", "sum of v over 10^14, at open or after close"),
+    23: ("FigureRange", "F outside 10^8 to 10^10"),
+    24: ("ClosesSpent", "forty closes accepted (quarter too)"),
+}
+
+
+def words(number):
+    """Document 01's words for a number; a later number than these has none here."""
+    return REFUSALS[number][1] if number in REFUSALS else "a refusal that this front has no words for"
