@@ -1,6 +1,7 @@
 #!/usr/bin/env bash
 # The test command: the layout of every file, every proof and must-fail edit from nothing, then the tests against the
 # independent computation. The last line is `N passed, M failed`, the sum over the parts.
+[ -n "${BASH_VERSION:-}" ] || { echo "test.sh: needs bash" >&2; exit 2; }
 set -uo pipefail
 cd "$(dirname "$0")" || exit 2
 passed=0
