@@ -59,7 +59,8 @@ enum vougecress_refusal {
     VOUGECRESS_REFUSED_LOW_WEIGHT = 21,      /* a present u or v below 1,000,000, at open or after close */
     VOUGECRESS_REFUSED_WEIGHT_SUM = 22,      /* sum of v over 10^14, at open or after close */
     VOUGECRESS_REFUSED_FIGURE_RANGE = 23,    /* F outside 10^8 to 10^10 */
-    VOUGECRESS_REFUSED_CLOSES_SPENT = 24     /* forty closes accepted (quarter too) */
+    VOUGECRESS_REFUSED_CLOSES_SPENT = 24,    /* forty closes accepted (quarter too) */
+    VOUGECRESS_REFUSED_TEST_LOAD = 33        /* the start is 2^31 or more, or the count is 0 or over 16,384, or a buffer is shorter */
 };
 
 /* ---- Limits of document 01. A number beyond one is refused, never cut. */
@@ -82,6 +83,7 @@ enum vougecress_refusal {
 #define VOUGECRESS_SECTOR_SCALE 1000000                      /* what the sector shares add to */
 #define VOUGECRESS_MOST_STREAM 32768                         /* bytes of a job stream */
 #define VOUGECRESS_MOST_HELD 1024                            /* units that a job stream holds */
+#define VOUGECRESS_STATE_RANGE UINT64_C(2147483648)          /* the start of a test load is below this */
 
 /* ---- Chain record ("Chain record")
  *
@@ -221,6 +223,25 @@ struct vougecress_printed vougecress_run(const uint8_t *stream, size_t stream_co
 
 /* The bytes of the text that vougecress_run writes for a stream. It only counts, and refuses nothing. */
 uint64_t vougecress_run_length(const uint8_t *stream, size_t stream_count);
+
+/* ---- Test load (document 02, [13]) */
+
+struct vougecress_loaded {
+    uint32_t refusal;
+    uint64_t count; /* units made */
+};
+
+/*
+ * A frame without real firms that two bureaus can make alike. A state starts as `start`, below 2^31, and steps to
+ * (state x 1,103,515,245 + 12,345) mod 2^31. Unit i, from 1, takes two steps: the first state mod 10,000,000, plus 1, is its
+ * turnover, the second mod 1,000,000 its random number, and i its number. Writes the first `count` places of the three
+ * lists; places beyond stay. A draw accepts every such frame.
+ * Refusal 33: start 2^31 or more, count 0 or over 16,384, or a list shorter than count.
+ */
+struct vougecress_loaded vougecress_load(uint64_t start, size_t count,
+                                         uint32_t *numbers, size_t numbers_count,
+                                         uint64_t *turnovers, size_t turnovers_count,
+                                         uint32_t *randoms, size_t randoms_count);
 
 #ifdef __cplusplus
 }

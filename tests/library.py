@@ -33,6 +33,7 @@ RotatedAnswer = answer_type(("k", c_uint32), ("start", c_uint32), ("count", c_ui
 ReadAnswer = answer_type(
     ("command", c_uint32), ("taken", c_uint64), ("first", c_uint64), ("second", c_uint64), ("third", c_uint64)
 )
+LoadAnswer = answer_type(("count", c_uint64))
 RunAnswer = answer_type(("length", c_uint64))
 
 # name -> answer type and parameter types; a list is a pointer and a count
@@ -44,6 +45,7 @@ SIGNATURES = {
     "vougecress_take_all": (TakenAnswer, ("u64s", c_size_t, "u8s")),
     "vougecress_draw": (DrawnAnswer, ("u32s", "u64s", "u32s", c_size_t, c_uint32, "u32s", "u64s")),
     "vougecress_rotate": (RotatedAnswer, ("u32s", "u64s", "u32s", c_size_t, c_uint32, "u32s", c_uint32, "u32s")),
+    "vougecress_load": (LoadAnswer, (c_uint64, c_size_t, "u32s", "u64s", "u32s")),
     "vougecress_read": (ReadAnswer, ("octets",)),
     "vougecress_run": (RunAnswer, ("octets", "octets")),
     "vougecress_run_length": (c_uint64, ("octets",)),
@@ -173,6 +175,11 @@ def rotate(numbers, turnovers, randoms, z, old_start, old_panel, f, out_leavers)
     )
     unchanged(read, (numbers, turnovers, randoms, old_panel))
     return refusal_of(answer) or Rotated(answer.k, answer.start, answer.count), leavers
+
+
+def load(start, count, numbers, turnovers, randoms):
+    answer, lists = call("vougecress_load", start, count, numbers, turnovers, randoms)
+    return refusal_of(answer) or answer.count, *lists
 
 
 # Job stream

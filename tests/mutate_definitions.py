@@ -105,7 +105,9 @@ NEAREST = {
     "Total": ("total",),
     "Stream": ("reading",),
     "Lines": ("stream",),
+    "Decimal": ("stream",),
     "Job": ("stream",),
+    "Load": ("load",),
 }
 
 

@@ -9,7 +9,7 @@ import random
 
 import definitions
 from definitions import number_list
-from independent import Refused, chain, frame, stream
+from independent import Refused, chain, frame, load, stream
 
 
 def judged(value, given):
@@ -103,6 +103,14 @@ def reading_cases(part):
     told, rest = stream.read_command(bytes(part))
     yield f"reading {number_list(part)}", judged(told, front_text)
     yield f"restOf {number_list(part)}", number_list(rest)
+
+
+def load_cases(start, count, *rooms):
+    told, *after = load.load(start, count, *rooms)
+    rest = f"{start} {count} " + " ".join(map(number_list, rooms))
+    yield f"loadAnswer {rest}", judged(told, str)
+    for name, value in zip(("loadNumbers", "loadTurnovers", "loadRandoms"), after):
+        yield f"{name} {rest}", number_list(value)
 
 
 def output_cases(octets):
@@ -207,6 +215,21 @@ def total_suite(rng, count):
         shares = faulty(rng, shares, shares[:-1], shares[:-1] + [shares[-1] + 1], [])
         indices = faulty(rng, indices, indices[:-1], [10**8 - 1] + indices[1:], [10**10 + 1] + indices[1:], [])
         yield from total_cases(shares, indices)
+
+
+def load_suite(rng, count):
+    for start in (0, 1, 12_345, 2**31 - 1, 2**31):
+        yield from load_cases(start, 3, [8] * 3, [7] * 4, [6] * 5)
+    for lengths in ((1, 2, 2), (2, 1, 2), (2, 2, 1), (2, 2, 2), (3, 2, 2)):
+        yield from load_cases(5, 2, *([9] * length for length in lengths))
+    yield from load_cases(5, 0, [], [], [])
+    yield "madeFrame 0 2 .numbers", number_list([1, 2])
+    long = [0] * 16_385
+    yield f"loadRefusal 5 16384 {number_list(long)} {number_list(long)} {number_list(long)}", "0"
+    yield f"loadRefusal 5 16385 {number_list(long)} {number_list(long)} {number_list(long)}", "33"
+    for _ in range(count):
+        units = rng.randint(1, 4)
+        yield from load_cases(rng.randrange(2**31), units, *(list(range(40, 40 + max(0, units + faulty(rng, rng.randint(0, 1), -1)))) for _ in range(3)))
 
 
 def encoded(command):
@@ -340,6 +363,7 @@ SUITES = {
     "direct": lambda rng, times: direct_suite(rng, 15 * times),
     "total": lambda rng, times: total_suite(rng, 40 * times),
     "stream": lambda rng, times: stream_suite(rng, 60 * times),
+    "load": lambda rng, times: load_suite(rng, 10 * times),
 }
 
 

@@ -2,12 +2,13 @@
 
 import re
 import subprocess
+import sys
 import tempfile
 from pathlib import Path
 
 import commands
 import library
-from independent import chain, frame
+from independent import chain, frame, load
 
 TOP = Path(__file__).resolve().parent.parent
 NUMBERS, TURNOVERS = [11, 12, 13, 14, 15], [70_000_000, 10_000_000, 8_000_000, 7_000_000, 5_000_000]
@@ -89,3 +90,17 @@ def test_every_call_of_the_example_is_looked_at(t):
     calls = len(re.findall(r"\bvougecress_(?!version)\w+\(", text))
     looked_at = text.count("accepted(\"") + text.count("accepted(name") + text.count("uint32_t refusal = vougecress_")
     t.check(calls == looked_at, "a look for each call", (calls, looked_at))
+
+
+def test_make_load(t):
+    """The lines are the independent computation's; README shows the first three; a fault ends with a message and a status."""
+    library.built()
+    for start, count in ((12_345, 3), (0, 1), (2**31 - 1, 1_000)):
+        done = subprocess.run([sys.executable, TOP / "examples" / "make_load.py", str(start), str(count)], capture_output=True, text=True)
+        wanted = "".join(f"{number},{turnover},{random}\n" for number, turnover, random in load.units(start, count))
+        t.check((done.returncode, done.stdout) == (0, wanted), "a load as comma lines", (start, count, done.stderr))
+        if count == 3:
+            t.check(wanted in (TOP / "README.md").read_text(), "README.md shows the load", wanted)
+    for words, status in ((("2147483648", "3"), 1), (("1", "0"), 1), (("1", "16385"), 1), (("1",), 2), (("-1", "3"), 2), (("x", "3"), 2)):
+        done = subprocess.run([sys.executable, TOP / "examples" / "make_load.py", *words], capture_output=True, text=True)
+        t.check((done.returncode, done.stdout, bool(done.stderr)) == (status, "", True), "a fault is said", (words, done))

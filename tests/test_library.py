@@ -4,7 +4,7 @@ from collections import Counter
 
 import generate
 import library
-from independent import Refused, chain, frame, stream
+from independent import Refused, chain, frame, load, stream
 from independent.chain import Direct, Figure, Record, within_bound
 
 # Refusals that each entry has; each must be met many times.
@@ -16,6 +16,7 @@ REFUSALS = {
     "quarter_cases": {9, 13, 19, 23, 24},
     "close_cases": {9, 13, 19, 21, 22, 23, 24},
     "total_cases": {14},
+    "load_cases": {33},
 }
 
 
@@ -255,3 +256,17 @@ def test_nothing_lent(t):
     t.check(library.run(generate.LISTING, b"") == (6, 0, b""), "an empty buffer is refused by 6 and nothing else")
     t.check(library.run_length(generate.LISTING) == len(expected), "the length is an answer of its own")
     t.check(library.run_length(b"") == 0, "nothing takes no byte")
+
+
+def test_load(t):
+    compared(t, "load_cases", 60, 2_000, lambda data: library.load(**data), lambda data: load.load(**data))
+
+
+def test_loads_are_drawn(t):
+    """Every load is accepted by a draw; document 02's worked load draws its worked panel."""
+    for start, count, z, first in ((0, 1, 1, 0), (12_345, 1_000, 3, 0), (2**31 - 1, 16_384, 100, 999_999)):
+        _, *lists = library.load(start, count, *([0] * count for _ in range(3)))
+        answer, panel, weights = panel_of(*lists, z, first)
+        t.check(answer == frame.draw(*lists, z, first, [0] * z, [0] * z)[0], "a load is drawn", repeat=(start, count, z, first))
+        if start == 12_345:
+            t.check((panel, weights) == ([90, 307, 314], [4_969_607_296] * 3), "the worked draw")

@@ -12,7 +12,7 @@ from pathlib import Path
 
 import generate
 import library
-from independent import Refused, chain, frame, stream
+from independent import Refused, chain, frame, load, stream
 
 TOP = Path(__file__).resolve().parent.parent
 TEXT = (TOP / "docs" / "METHOD.md").read_text()
@@ -419,6 +419,7 @@ ENTRIES = {
     "close": (generate.close_cases, lambda data: chain.close(record_of(data), data["p"])[1]),
     "total": (generate.total_cases, lambda data: chain.total(**data)),
     "read": (generate.reader_cases, lambda data: stream.read_command(data["part"])[0]),
+    "load": (generate.load_cases, lambda data: load.load(**data)[0]),
 }
 
 
@@ -510,13 +511,14 @@ WORDS = {
     21: [LIMIT["leastWeight"]],
     22: [LIMIT["mostWeight"]],
     23: INDEX,
+    33: [LIMIT["stateRange"], 0, LIMIT["mostFrame"]],
 }
 
 
 def test_refusals(t):
-    """All 24 numbers, each with the limits in its words, and with the entries that the orders name for it."""
+    """All numbers, each with the limits in its words, and with the entries that the orders name for it."""
     rows = table("### All refusals")
-    t.check([int(row[0]) for row in rows] == list(range(1, 25)), "METHOD.md: 1 to 24", [row[0] for row in rows])
+    t.check([int(row[0]) for row in rows] == [*range(1, 25), 33], "METHOD.md: 1 to 24, and 33", [row[0] for row in rows])
     orders = {entry: numbers_in(order) for entry, order in table("### Orders of the entries")}
     commands = [number for _, order in table("### Orders of the stream") for number in numbers_in(order)]
     for number, words, places in rows:

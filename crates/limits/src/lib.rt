@@ -58,6 +58,17 @@ pub const MOST_STREAM: usize = 32768;
 
 pub const MOST_HELD: usize = 1024;
 
+// ---- test load
+// A state is below this; it steps by the other two.
+pub const STATE_RANGE: u64 = 2_147_483_648;
+
+pub const STATE_FACTOR: u64 = 1_103_515_245;
+
+pub const STATE_ADDEND: u64 = 12_345;
+
+// A turnover of a test load is at most this.
+pub const TURNOVER_RANGE: u64 = 10_000_000;
+
 // The range of an index, which 12, 14, 19 and 23 share.
 pub fn bad_index(c: u64) -> bool
     ensures { λ r. ⌜ r ≡ badIndex c ⌝ }

@@ -27,6 +27,7 @@ pub enum Refusal {
     WeightSum,
     FigureRange,
     ClosesSpent,
+    TestLoad,
 }
 
 // What a group of tests finds: the first refusal that applies, or none.
@@ -65,6 +66,7 @@ impl Refusal {
             Refusal::WeightSum => 22,
             Refusal::FigureRange => 23,
             Refusal::ClosesSpent => 24,
+            Refusal::TestLoad => 33,
         }
     }
 }

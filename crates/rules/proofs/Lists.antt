@@ -4,7 +4,7 @@ use mathlib.Core.Path.{_≡_, refl, sym, ap, ap₂, _∙_}
 use mathlib.Core.Bool.{Bool, true, false}
 use mathlib.Core.List.{List, [], _∷_, _++_, append-nil}
 use Prim.Native.Nat.{ℕ, zero, suc, _+_, _-_, _*_, _/_, _<_, _≤_, zero-le}
-use native.Mathlib.Nat.{le-of-suc-le-suc, not-suc-le-zero, zero-mul, mul-zero, mul-le-mul-left, div-le-of-le-mul}
+use native.Mathlib.Nat.{le-of-eq, le-of-suc-le-suc, not-suc-le-zero, zero-mul, mul-zero, mul-le-mul-left, div-le-of-le-mul}
 use native.Mathlib.Numerals.{add-one}
 use native.Mathlib.Omega.{arith}
 use lib.Dec.{ltb, eqb}
@@ -188,6 +188,27 @@ drop-replicate (suc n) zero x =
 drop-replicate (suc n) (suc m) x =
     let e : suc m - suc n ≡ m - n = omega arith in
     rw e (drop-replicate n m x)
+
+-- ---- laying news over a buffer, a place a turn
+-- the buffer after i turns: the first i of the news, the other places as they were
+abbrev pub writtenTo : ℕ → List ℕ → List ℕ → List ℕ
+writtenTo i news buffer = take i news ++ drop i buffer
+
+pub length-writtenTo : (i : ℕ) (news buffer : List ℕ) → i ≤ length news → length news ≤ length buffer → length (writtenTo i news buffer) ≡ length buffer
+length-writtenTo zero news buffer h k = refl
+length-writtenTo (suc i) [] buffer h k = absurd (not-suc-le-zero h)
+length-writtenTo (suc i) (x ∷ news) [] h k = absurd (not-suc-le-zero k)
+length-writtenTo (suc i) (x ∷ news) (y ∷ buffer) h k = ap suc (length-writtenTo i news buffer (le-of-suc-le-suc h) (le-of-suc-le-suc k))
+
+pub writtenTo-next : (i : ℕ) (news buffer : List ℕ) → i < length news → length news ≤ length buffer → set (writtenTo i news buffer) i (getD news i 0) ≡ writtenTo (suc i) news buffer
+writtenTo-next i [] buffer h k = absurd (not-suc-le-zero h)
+writtenTo-next i (x ∷ news) [] h k = absurd (not-suc-le-zero k)
+writtenTo-next zero (x ∷ news) (y ∷ buffer) h k = refl
+writtenTo-next (suc i) (x ∷ news) (y ∷ buffer) h k = ap (λ (l : List ℕ). x ∷ l) (writtenTo-next i news buffer (le-of-suc-le-suc h) (le-of-suc-le-suc k))
+
+-- all of them: what `written` says where nothing refuses
+pub writtenTo-all : (news buffer : List ℕ) → writtenTo (length news) news buffer ≡ news ++ drop (length news) buffer
+writtenTo-all news buffer = ap (λ (l : List ℕ). l ++ drop (length news) buffer) (take-all (length news) news (le-of-eq refl))
 
 -- ---- sums of products with numbers within a limit
 -- each place of a list is within the limit, where a test that fails says so of a number

@@ -14,3 +14,4 @@ pub mod Stream
 pub mod Decimal
 pub mod Lines
 pub mod Job
+pub mod Load

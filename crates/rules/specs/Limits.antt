@@ -89,3 +89,18 @@ mostStream = 32768
 
 abbrev pub mostHeld : ℕ
 mostHeld = 1024
+
+-- ---- test load (document 02, [13], refusal 33)
+-- a state is below this, 2^31
+abbrev pub stateRange : ℕ
+stateRange = 2147483648
+
+abbrev pub stateFactor : ℕ
+stateFactor = 1103515245
+
+abbrev pub stateAddend : ℕ
+stateAddend = 12345
+
+-- a turnover of a test load is at most this
+abbrev pub turnoverRange : ℕ
+turnoverRange = 10000000
