@@ -16,7 +16,7 @@ pub refuse-off : (test : Bool) (n : ℕ) → test ≡ false → refuse test n �
 unfolding refuse
 refuse-off test n h = rw h
 
--- none: the test does not apply
+-- none: the test does not apply. The number is n and one more, since 0 is no number: `refuse-none _ 23` is of 24.
 pub refuse-none : (test : Bool) (n : ℕ) → refuse test (suc n) ≡ 0 → test ≡ false
 unfolding refuse
 refuse-none true n e = absurd (omega arith)
