@@ -10,7 +10,7 @@ use Rattle.rules.specs.Selection.{count, byKey, listed}
 use Rattle.rules.specs.TakeAll.{Frame, Group, turnover, takeAllSize, takeAllGroup, baseWeight}
 use Rattle.rules.specs.Draw.{keyBelow, notTakeAll, sampledBy, drawnBy, panelNumbers, panelWeights, frameRefusal}
 use Rattle.frame.proofs.Accepted.{Accepted, accepted}
-use Rattle.draw_key.proofs.Keys.{keys-order-among}
+use Rattle.draw_key.proofs.Keys.{by-keys}
 use Rattle.selection.proofs.Orders.{Order}
 use Rattle.selection.proofs.TakeAll.{outside-below}
 use Rattle.selection.proofs.Panel.{sampled-count, panel-count, panel-rises}
@@ -24,7 +24,7 @@ module _ (f : Frame) (z start : ℕ) (none : frameRefusal f z start ≡ 0) where
   facts = accepted f z start none
 
   order : Order (notTakeAll g) (byKey (keyBelow f g start)) (length (f .turnovers))
-  order = keys-order-among f z start facts start (notTakeAll g) g
+  order = by-keys f start (length (f .turnovers)) (facts .units .positive) (facts .randomLow) (notTakeAll g) g
 
   -- exactly n units are sampled
   pub n-sampled : count (sampledBy f g start) (length (f .turnovers)) ≡ g .sampleSize

@@ -1,12 +1,12 @@
--- The keys of an accepted frame, under any start: each has a positive denominator, so that comparing keys, and of equal keys the
--- unit numbers, orders the units strictly and totally. This is what the laws of selection ask for.
+-- The keys of units whose turnovers and random numbers are in range, under any start: each has a positive denominator, so that comparing keys, and
+-- of equal keys the unit numbers, orders the units strictly and totally. This is what the laws of selection ask for.
 use Prim.Native.Nat.{ℕ, _-_, _*_, _<_}
 use mathlib.Core.Bool.{Bool}
 use mathlib.Core.Path.{_≡_, ap}
 use native.Mathlib.Omega.{arith}
 use native.Mathlib.Nat.{mul-pos}
 use lib.Dec.{ltb}
-use lib.ListN.{length, getD}
+use lib.ListN.{getD}
 use borrow.Author.Tests.{ltb-true}
 use Rattle.rules.specs.Limits.{randomRange}
 use Rattle.rules.specs.Selection.{byKey}
@@ -15,7 +15,6 @@ use Rattle.rules.specs.Draw.{shifted, shiftedOf, keyNumerator, keyDenominator, 
 use Rattle.rules.proofs.Tests.{by-test, by-order, not-both, must-hold}
 use Rattle.selection.proofs.Orders.{Order, KeyOrder, key-order}
 use Rattle.draw_fraction.proofs.Order.{asymmetric, not-below-transitive}
-use Rattle.frame.proofs.Accepted.{Accepted}
 
 -- a shifted number is in the range of the random number, whatever the start
 pub shifted-low : (start random : ℕ) → random < randomRange → shifted start random < randomRange
@@ -55,8 +54,3 @@ module _ (f : Frame) (start n : ℕ) (positive : (i : ℕ) → i < n → 0 < tur
       (λ i. keyDenominator (turnover (f .turnovers) i) (shiftedOf f start i))
       n
       (λ i l. denominator-positive _ _ (positive i l) (shifted-low start (getD (f .randoms) i 0) (low i l))))
-
-pub keys-order-among :
-    (f : Frame) (z s : ℕ) → Accepted f z s → (start : ℕ) (among : ℕ → Bool) (g : Group)
-    → Order among (byKey (keyBelow f g start)) (length (f .turnovers))
-keys-order-among f z s ok start = by-keys f start (length (f .turnovers)) (ok .units .positive) (ok .randomLow)
