@@ -138,7 +138,8 @@ def test_generators_repeat(t):
         t.check([case.data for case in first] != [case.data for case in other], f"{name}: seeds differ")
 
 
-WIDE = {"turnovers", "out_weights", "W", "weights", "index", "indices"}
+WIDE = {"turnovers", "out_weights", "W", "weights", "index", "indices", "count"}
+WIDE_START = ("open_cases", "chain_cases", "load_cases")
 
 
 def widest(data, name):
@@ -157,7 +158,7 @@ def test_numbers_fit_the_machine(t):
             continue
         for case in generator(t.seed, 20):
             for argument in case.data:
-                wide = argument in WIDE or (argument == "start" and "W" in case.data)
+                wide = argument in WIDE or (argument == "start" and name in WIDE_START)
                 top = generate.U64 if wide else generate.U32
                 value = widest(case.data, argument)
                 t.check(0 <= value <= top, f"{argument} holds {value}", case)

@@ -17,10 +17,10 @@ use Rattle.chain_bound.proofs.Demand3.{demand3-trace}
 use Rattle.c_values.specs.declared.Figure.{Figure}
 use Rattle.c_values.specs.Figures.{figureFrom}
 use Rattle.c_values.specs.Record.{recordPlaces, recordIn, recordList}
-use Rattle.vougecress.specs.Record.{listRefusal, listAnswer, listAfter, openedNumber, openedList}
-use Rattle.vougecress.proofs.records.vougecress_open.Reads as open-reads
-use Rattle.vougecress.proofs.figures.vougecress_quarter.Reads as quarter-reads
-use Rattle.vougecress.proofs.records.vougecress_close.Reads as close-reads
+use Rattle.c_chain.specs.Record.{listRefusal, listAnswer, listAfter, openedNumber, openedList}
+use Rattle.c_chain.proofs.records.vougecress_open.Reads as open-reads
+use Rattle.c_chain.proofs.figures.vougecress_quarter.Reads as quarter-reads
+use Rattle.c_chain.proofs.records.vougecress_close.Reads as close-reads
 use Rattle.chain_bound_c.specs.Lent.{OpenMade, CallsMade, answersIn}
 use Rattle.chain_bound_c.proofs.Records.{Full, read-back, room-again, left-in, full-in, full-open, full-after}
 

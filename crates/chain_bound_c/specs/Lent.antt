@@ -10,12 +10,12 @@ use denote.Triple.Clauses.{AtExit}
 use Rattle.rules.specs.Refusals.{Judged, judged}
 use Rattle.rules.specs.Chain.{Call}
 use Rattle.c_values.specs.declared.Figure.{Figure}
-use Rattle.vougecress.proofs.records.vougecress_open as open-contract
-use Rattle.vougecress.proofs.records.vougecress_open.Reads as open-reads
-use Rattle.vougecress.proofs.figures.vougecress_quarter as quarter-contract
-use Rattle.vougecress.proofs.figures.vougecress_quarter.Reads as quarter-reads
-use Rattle.vougecress.proofs.records.vougecress_close as close-contract
-use Rattle.vougecress.proofs.records.vougecress_close.Reads as close-reads
+use Rattle.c_chain.proofs.records.vougecress_open as open-contract
+use Rattle.c_chain.proofs.records.vougecress_open.Reads as open-reads
+use Rattle.c_chain.proofs.figures.vougecress_quarter as quarter-contract
+use Rattle.c_chain.proofs.figures.vougecress_quarter.Reads as quarter-reads
+use Rattle.c_chain.proofs.records.vougecress_close as close-contract
+use Rattle.c_chain.proofs.records.vougecress_close.Reads as close-reads
 
 -- `vougecress_open` of the lists w, g and a, of start and of the lent list returned n and left ys in the lent list; `now w` is what w holds.
 pub record OpenMade (w g a lent : RefT (List ℕ)) (start n : ℕ) (ys : List ℕ) : Type 0 where

@@ -1,4 +1,1 @@
-pub mod Answers
-pub mod Record
-pub mod Streams
 pub mod Version

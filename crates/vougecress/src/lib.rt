@@ -1,13 +1,5 @@
-// The library for callers in C: every entry on numbers and lent lists. Each answers what the inner entry answers, and a
-// refusal as document 01's number in `refusal` (0: accepted; every other field is 0 after a refusal).
+// The library for callers in C is joined from the crates that hold functions for C (docs/CRATES.md); here is its version.
 // include/vougecress.h documents each function for its caller.
-pub mod draws;
-pub mod figures;
-pub mod groups;
-pub mod records;
-pub mod rotates;
-pub mod streams;
-
 ghost use mathlib.Core.Path.{_≡_};
 ghost use Rattle.vougecress.specs.Version.{libraryVersion};
 

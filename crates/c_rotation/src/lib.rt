@@ -1,0 +1,58 @@
+// Rotation, on a lent frame, old panel and buffer.
+ghost use mathlib.Core.Path.{_≡_};
+ghost use Rattle.rules.specs.TakeAll.{frame};
+ghost use Rattle.rules.specs.Rotation.{rotationAnswer, rotationLeavers, Holds};
+ghost use Rattle.c_rotation.specs.Answer.{rotatedFrom};
+
+// The answer of a rotation.
+#[repr(C)]
+pub struct Rotated {
+    pub refusal: u32,
+    pub k: u32,
+    pub start: u32,
+    pub count: u64,
+}
+
+#[no_mangle]
+pub extern "C" fn vougecress_rotate(
+    numbers: &[u32],
+    turnovers: &[u64],
+    randoms: &[u32],
+    z: usize,
+    old: u32,
+    panel: &[u32],
+    fraction: u32,
+    leavers: &mut [u32],
+) -> Rotated
+    ensures { λ r.
+        ⌜ r ≡ rotatedFrom (rotationAnswer (frame (now (numbers .entry)) (now (turnovers .entry)) (now (randoms .entry))) z old (now (panel .entry))
+        fraction (now (leavers .entry))) ⌝ }
+    ensures { λ _.
+        ⌜ Holds (rotationLeavers (frame (now (numbers .entry)) (now (turnovers .entry)) (now (randoms .entry))) z old (now (panel .entry)) fraction
+        (now (leavers .entry))) (now (leavers .entry)) (now (leavers .exit)) ⌝ }
+{
+    let answer = rotation::rotate(
+        numbers,
+        turnovers,
+        randoms,
+        z,
+        old,
+        panel,
+        fraction,
+        leavers,
+    );
+    match answer {
+        rotation::Answer::Rotated { k, start, count } => Rotated {
+            refusal: 0,
+            k,
+            start,
+            count: count as u64,
+        },
+        rotation::Answer::Refused(why) => Rotated {
+            refusal: why.number() as u32,
+            k: 0,
+            start: 0,
+            count: 0,
+        },
+    }
+}
