@@ -12,6 +12,7 @@ CHAINRUN = TOP / "target" / "bin" / "chainrun"
 SYSTEM_TOOLS = ("sh", "dirname", "readlink", "env", "cp", "mkdir", "cat", "printf")
 PARTS = ("run.sh", "build.sh", "install.sh", "crates.txt", "tools", "examples", "include")
 FEW_CRATES = ("refusals", "chainrun", "vougecress")
+EXPORTING = tuple(path.name for path in sorted((TOP / "crates").glob("c_*")))  # with c_values, which exports nothing
 
 # Says what rt says and leaves what rt leaves. RT_CALLS gets the words of each call, RT_FAILS makes one fail.
 STAND_IN = """#!/bin/sh
@@ -25,8 +26,8 @@ check)
     echo "rt: $last proved (17 s)"
     mkdir -p target/bin && cp "$RT_PROGRAM" target/bin/chainrun ;;
 staticlib)
-    mkdir -p target/staticlib && cp "$RT_ARCHIVE" target/staticlib/libvougecress.a
-    echo 'rt: target/staticlib/libvougecress.a has the functions of vougecress' ;;
+    mkdir -p target/staticlib && cp "$RT_ARCHIVES/lib$2.a" target/staticlib/
+    echo "rt: target/staticlib/lib$2.a has the functions of $2" ;;
 esac
 """
 
@@ -72,7 +73,7 @@ class Copy:
                 shutil.copytree(source, self.top / name, ignore=shutil.ignore_patterns("__pycache__"))
             else:
                 shutil.copy(source, self.top / name)
-        for crate in FEW_CRATES:
+        for crate in (*FEW_CRATES, *EXPORTING):
             shutil.copytree(TOP / "crates" / crate, self.top / "crates" / crate)
         self.path = links(Path(folder) / "path", programs)
         self.calls = Path(folder) / "calls"

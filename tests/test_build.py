@@ -20,7 +20,7 @@ VERSION = "1.0.0"
 def copy_with_archive(folder, **more):
     library.built()
     copy = Copy(folder, **more)
-    copy.variables["RT_ARCHIVE"] = str(TOP / "target" / "staticlib" / "libvougecress.a")
+    copy.variables["RT_ARCHIVES"] = str(TOP / "target" / "staticlib")
     return copy
 
 
