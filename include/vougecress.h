@@ -243,6 +243,20 @@ struct vougecress_loaded vougecress_load(uint64_t start, size_t count,
                                          uint64_t *turnovers, size_t turnovers_count,
                                          uint32_t *randoms, size_t randoms_count);
 
+/* ---- A word of a job stream (document 02, [3]) */
+
+struct vougecress_found {
+    uint32_t refusal;
+    uint32_t word;
+};
+
+/*
+ * The 32-bit word at the front of `part`, its first byte the highest; `part` may be of any length, and bytes beyond the fourth
+ * are not looked at. An operand of eight bytes is two such words, the upper first. Writes nothing.
+ * Refusal 17: fewer than four bytes are left, none among them.
+ */
+struct vougecress_found vougecress_word(const uint8_t *part, size_t part_count);
+
 #ifdef __cplusplus
 }
 #endif

@@ -33,6 +33,7 @@ RotatedAnswer = answer_type(("k", c_uint32), ("start", c_uint32), ("count", c_ui
 ReadAnswer = answer_type(
     ("command", c_uint32), ("taken", c_uint64), ("first", c_uint64), ("second", c_uint64), ("third", c_uint64)
 )
+WordAnswer = answer_type(("word", c_uint32))
 LoadAnswer = answer_type(("count", c_uint64))
 RunAnswer = answer_type(("length", c_uint64))
 
@@ -47,6 +48,7 @@ SIGNATURES = {
     "vougecress_rotate": (RotatedAnswer, ("u32s", "u64s", "u32s", c_size_t, c_uint32, "u32s", c_uint32, "u32s")),
     "vougecress_load": (LoadAnswer, (c_uint64, c_size_t, "u32s", "u64s", "u32s")),
     "vougecress_read": (ReadAnswer, ("octets",)),
+    "vougecress_word": (WordAnswer, ("octets",)),
     "vougecress_run": (RunAnswer, ("octets", "octets")),
     "vougecress_run_length": (c_uint64, ("octets",)),
 }
@@ -208,6 +210,13 @@ def read_command(part):
     if any(operands[count:]) or answer.taken > len(part):
         return ("an absent operand that is not 0, or more taken than there is", name, operands, answer.taken), part
     return (name, *operands[:count]), part[answer.taken :]
+
+
+def front_word(part):
+    """The word at the front of a part."""
+    answer, lists = call("vougecress_word", part)
+    unchanged(lists, [part])
+    return refusal_of(answer) or answer.word
 
 
 def run(stream, out):

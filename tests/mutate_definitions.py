@@ -104,6 +104,7 @@ NEAREST = {
     "Direct": ("direct",),
     "Total": ("total",),
     "Stream": ("reading",),
+    "Word": ("word",),
     "Lines": ("stream",),
     "Decimal": ("stream",),
     "Job": ("stream",),

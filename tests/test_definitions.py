@@ -105,6 +105,10 @@ def reading_cases(part):
     yield f"restOf {number_list(part)}", number_list(rest)
 
 
+def word_cases(part):
+    yield f"wordOf {number_list(part)}", judged(stream.front_word(bytes(part)), str)
+
+
 def load_cases(start, count, *rooms):
     told, *after = load.load(start, count, *rooms)
     rest = f"{start} {count} " + " ".join(map(number_list, rooms))
@@ -215,6 +219,14 @@ def total_suite(rng, count):
         shares = faulty(rng, shares, shares[:-1], shares[:-1] + [shares[-1] + 1], [])
         indices = faulty(rng, indices, indices[:-1], [10**8 - 1] + indices[1:], [10**10 + 1] + indices[1:], [])
         yield from total_cases(shares, indices)
+
+
+def word_suite(rng, count):
+    """Every length from 0 to 9, and parts over 32,768 bytes, which a word takes."""
+    for length in (*range(10), 32_768, 32_769):
+        yield from word_cases([rng.randrange(256) for _ in range(length)])
+    for _ in range(count):
+        yield from word_cases([rng.randrange(256) for _ in range(rng.randint(2, 6))])
 
 
 def load_suite(rng, count):
@@ -364,6 +376,7 @@ SUITES = {
     "total": lambda rng, times: total_suite(rng, 40 * times),
     "stream": lambda rng, times: stream_suite(rng, 60 * times),
     "load": lambda rng, times: load_suite(rng, 10 * times),
+    "word": lambda rng, times: word_suite(rng, 10 * times),
 }
 
 

@@ -17,6 +17,7 @@ REFUSALS = {
     "close_cases": {9, 13, 19, 21, 22, 23, 24},
     "total_cases": {14},
     "load_cases": {33},
+    "word_cases": {17},
 }
 
 
@@ -270,3 +271,18 @@ def test_loads_are_drawn(t):
         t.check(answer == frame.draw(*lists, z, first, [0] * z, [0] * z)[0], "a load is drawn", repeat=(start, count, z, first))
         if start == 12_345:
             t.check((panel, weights) == ([90, 307, 314], [4_969_607_296] * 3), "the worked draw")
+
+
+def test_word(t):
+    compared(t, "word_cases", 300, 20_000, lambda data: library.front_word(**data), lambda data: stream.front_word(**data))
+    t.check(library.built().vougecress_word(None, 0).refusal == 17, "nothing lent is cut short, and no end")
+
+
+def test_two_words(t):
+    """A turnover and a start index as the reader answers them are two words, the upper first."""
+    for case in generate.word_cases(t.seed, t.count(100, 5_000)):
+        octets = (case.data["part"] + bytes(16))[:16]
+        both = library.front_word(octets[:8]) * 2**32 + library.front_word(octets[4:])
+        t.check(library.read_command(b"\x05" + octets)[0] == ("open", both), "a start index is two words", repeat=case)
+        t.check(library.read_command(b"\x01" + octets[12:] + octets)[0][2] == both, "a turnover is two words", repeat=case)
+    t.check(library.front_word(b"\0\0\0\1") * 2**32 + library.front_word(b"\0\0\0\2") == 4_294_967_298, "the upper first")

@@ -271,6 +271,16 @@ class Stream(Example):
         self.same(library.run(self.octets, b"\0" * len(expected)), (0, len(expected), expected))
 
 
+class Word(Example):
+    """part: its bytes as numbers"""
+
+    def reckon(self):
+        part = bytes(self.given["part"])
+        answer = stream.front_word(part)
+        self.same(library.front_word(part), answer)
+        self.answers(answer, **({} if isinstance(answer, Refused) else {"word": answer}))
+
+
 KINDS = {
     "frame": Frame,
     "take-all": TakeAll,
@@ -279,6 +289,7 @@ KINDS = {
     "chain": Chain,
     "total": Total,
     "stream": Stream,
+    "word": Word,
 }
 
 
@@ -420,6 +431,7 @@ ENTRIES = {
     "total": (generate.total_cases, lambda data: chain.total(**data)),
     "read": (generate.reader_cases, lambda data: stream.read_command(data["part"])[0]),
     "load": (generate.load_cases, lambda data: load.load(**data)[0]),
+    "word": (generate.word_cases, lambda data: stream.front_word(data["part"])),
 }
 
 
