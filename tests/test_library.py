@@ -4,7 +4,8 @@ from collections import Counter
 
 import generate
 import library
-from independent import Refused, chain, frame, load, stream
+from cases.samples import WORKED
+from independent import Refused, chain, frame, load, sample, stream
 from independent.chain import Direct, Figure, Record, within_bound
 
 # Refusals that each entry has; each must be met many times.
@@ -17,6 +18,7 @@ REFUSALS = {
     "close_cases": {9, 13, 19, 21, 22, 23, 24},
     "total_cases": {14},
     "load_cases": {33},
+    "sample_cases": {31},
 }
 
 
@@ -270,3 +272,26 @@ def test_loads_are_drawn(t):
         t.check(answer == frame.draw(*lists, z, first, [0] * z, [0] * z)[0], "a load is drawn", repeat=(start, count, z, first))
         if start == 12_345:
             t.check((panel, weights) == ([90, 307, 314], [4_969_607_296] * 3), "the worked draw")
+
+
+def test_sample(t):
+    compared(t, "sample_cases", 600, 30_000, lambda data: library.share(**data), lambda data: sample.share(**data))
+
+
+# The worked answers: counts, whole parts and remainders of the sectors.
+WORKED_ANSWERS = {
+    "two passes": ([2, 3, 5, 0], [1, 0, 0, 0], [4, 0, 0, 4]),
+    "remainders are not reduced": ([1, 1, 1], [0, 0, 1], [6, 6, 4]),
+    "equal remainders": ([1, 1, 0], [0, 0, 0], [2, 2, 2]),
+    "one leaves": ([43, 40, 17], [42, 0, 17], [6, 0, 1]),
+    "a quota that equals its minimum": ([2, 2], [2, 2], [0, 0]),
+    "nothing to share": ([0, 0], [0, 0], [0, 0]),
+}
+
+
+def test_worked_samples(t):
+    """Each worked case by its own numbers; beyond the sectors every place is 0."""
+    t.check(set(WORKED) == set(WORKED_ANSWERS), "each worked case has an answer")
+    for what, expected in WORKED_ANSWERS.items():
+        told = library.share(*WORKED[what])
+        t.check(tuple(told) == tuple(values + [0] * (64 - len(values)) for values in expected), what, repeat=told)
