@@ -60,6 +60,7 @@ enum vougecress_refusal {
     VOUGECRESS_REFUSED_WEIGHT_SUM = 22,      /* sum of v over 10^14, at open or after close */
     VOUGECRESS_REFUSED_FIGURE_RANGE = 23,    /* F outside 10^8 to 10^10 */
     VOUGECRESS_REFUSED_CLOSES_SPENT = 24,    /* forty closes accepted (quarter too) */
+    VOUGECRESS_REFUSED_SAMPLE = 31,          /* the lists are unequal, empty or over 64, a strength is out of range, T is over 6,400 or the minima together exceed T */
     VOUGECRESS_REFUSED_TEST_LOAD = 33        /* the start is 2^31 or more, or the count is 0 or over 16,384, or a buffer is shorter */
 };
 
@@ -79,11 +80,14 @@ enum vougecress_refusal {
 #define VOUGECRESS_HIGHEST_INDEX UINT64_C(10000000000)       /* to 1,000 */
 #define VOUGECRESS_INDEX_OF_100 UINT64_C(1000000000)
 #define VOUGECRESS_MOST_CLOSES 40                            /* closes of one chain */
-#define VOUGECRESS_MOST_SECTORS 64                           /* sectors of a total */
+#define VOUGECRESS_MOST_SECTORS 64                           /* sectors of a total, and of a sample; places of a sample's lists */
 #define VOUGECRESS_SECTOR_SCALE 1000000                      /* what the sector shares add to */
 #define VOUGECRESS_MOST_STREAM 32768                         /* bytes of a job stream */
 #define VOUGECRESS_MOST_HELD 1024                            /* units that a job stream holds */
 #define VOUGECRESS_STATE_RANGE UINT64_C(2147483648)          /* the start of a test load is below this */
+#define VOUGECRESS_LOWEST_STRENGTH 1                         /* the range of a sector's strength in a sample */
+#define VOUGECRESS_HIGHEST_STRENGTH UINT64_C(1000000000)
+#define VOUGECRESS_MOST_INTERVIEWS 6400                      /* interviews of a sample */
 
 /* ---- Chain record ("Chain record")
  *
@@ -256,6 +260,28 @@ struct vougecress_found {
  * Refusal 17: fewer than four bytes are left, none among them.
  */
 struct vougecress_found vougecress_word(const uint8_t *part, size_t part_count);
+
+/* ---- Sample over sectors (document 02, [10]) */
+
+/* A place for each sector, in the order in which they are handed in; places beyond the sectors are 0. */
+struct vougecress_allocation {
+    uint32_t refusal;
+    uint64_t counts[VOUGECRESS_MOST_SECTORS];     /* interviews; they add to T */
+    uint64_t wholes[VOUGECRESS_MOST_SECTORS];     /* the whole part of the quota; 0 for a sector that left */
+    uint64_t remainders[VOUGECRESS_MOST_SECTORS]; /* the remainder of its division, not reduced; 0 for a sector that left */
+};
+
+/*
+ * Shares T interviews over sectors, each with a strength (1 to 10^9) and a minimum. The quota of a sector is T' x strength
+ * over the strengths of the sectors left, where T' is T less what has been given. In a pass all sectors whose exact quota is
+ * below their minimum get the minimum and leave; the passes repeat until none leaves. The others get the whole part of
+ * their quota, and one more each by largest remainder, equal remainders by earlier sector, until all T are given. No sector
+ * gets less than its minimum. Nothing is written but the answer, which is handed back by value, 1,544 bytes.
+ * Refusal 31: lists unequal, empty or over 64, a strength out of range, T over 6,400, or minima that exceed T together.
+ */
+struct vougecress_allocation vougecress_sample(uint64_t interviews,
+                                               const uint64_t *strengths, size_t strengths_count,
+                                               const uint64_t *minima, size_t minima_count);
 
 #ifdef __cplusplus
 }

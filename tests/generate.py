@@ -11,6 +11,7 @@ from cases.chains import chain_cases, close_cases, open_cases, quarter_cases, to
 from cases.frames import draw_cases, large_draw_cases, near_draw_cases, rotate_cases, take_all_cases
 from cases.loads import load_cases
 from cases.streams import LISTING, many_draw_cases, reader_cases, stream_cases, word_cases
+from cases.samples import sample_cases
 
 __all__ = [
     "GENERATORS",
@@ -30,6 +31,7 @@ __all__ = [
     "quarter_cases",
     "reader_cases",
     "rotate_cases",
+    "sample_cases",
     "stream_cases",
     "take_all_cases",
     "total_cases",

@@ -7,13 +7,14 @@ so a place that the library wrote without leave shows.
 
 import ctypes
 import subprocess
-from ctypes import POINTER, Structure, c_size_t, c_uint8, c_uint32, c_uint64
+from ctypes import POINTER, Array, Structure, c_size_t, c_uint8, c_uint32, c_uint64
 from functools import cache
 from pathlib import Path
 
 from independent import Refused
 from independent.chain import Figure, Record, Total
 from independent.frame import Drawn, Rotated, Taken
+from independent.sample import Shared
 from independent.stream import END
 
 TOP = Path(__file__).resolve().parent.parent
@@ -35,6 +36,8 @@ ReadAnswer = answer_type(
 )
 WordAnswer = answer_type(("word", c_uint32))
 LoadAnswer = answer_type(("count", c_uint64))
+Places = c_uint64 * 64
+SampleAnswer = answer_type(("counts", Places), ("wholes", Places), ("remainders", Places))
 RunAnswer = answer_type(("length", c_uint64))
 
 # name -> answer type and parameter types; a list is a pointer and a count
@@ -47,6 +50,7 @@ SIGNATURES = {
     "vougecress_draw": (DrawnAnswer, ("u32s", "u64s", "u32s", c_size_t, c_uint32, "u32s", "u64s")),
     "vougecress_rotate": (RotatedAnswer, ("u32s", "u64s", "u32s", c_size_t, c_uint32, "u32s", c_uint32, "u32s")),
     "vougecress_load": (LoadAnswer, (c_uint64, c_size_t, "u32s", "u64s", "u32s")),
+    "vougecress_sample": (SampleAnswer, (c_uint64, "u64s", "u64s")),
     "vougecress_read": (ReadAnswer, ("octets",)),
     "vougecress_word": (WordAnswer, ("octets",)),
     "vougecress_run": (RunAnswer, ("octets", "octets")),
@@ -56,6 +60,8 @@ ELEMENTS = {"u8s": c_uint8, "u32s": c_uint32, "u64s": c_uint64, "octets": c_uint
 
 
 @cache
+
+
 def built():
     """The shared library, built by the README's command, with its functions declared."""
     subprocess.run([str(TOP / "build.sh")], check=True, capture_output=True)
@@ -95,12 +101,18 @@ def call(name, *arguments):
     return answer, [kind(array) for array, kind in lists]
 
 
+def value_of(answer, name):
+    """A field of an answer; an array as a list."""
+    value = getattr(answer, name)
+    return list(value) if isinstance(value, Array) else value
+
+
 def refusal_of(answer):
     """Refused, or None; after a refusal every other field is 0."""
     if answer.refusal == 0:
         return None
-    others = [getattr(answer, name) for name, _ in answer._fields_[1:]]
-    if any(others):
+    others = [value_of(answer, name) for name, _ in answer._fields_[1:]]
+    if any(any(value) if isinstance(value, list) else value for value in others):
         return ("a refusal with more than its number", answer.refusal, others)
     return Refused(answer.refusal)
 
@@ -182,6 +194,12 @@ def rotate(numbers, turnovers, randoms, z, old_start, old_panel, f, out_leavers)
 def load(start, count, numbers, turnovers, randoms):
     answer, lists = call("vougecress_load", start, count, numbers, turnovers, randoms)
     return refusal_of(answer) or answer.count, *lists
+
+
+def share(interviews, strengths, minima):
+    answer, lists = call("vougecress_sample", interviews, strengths, minima)
+    unchanged(lists, (strengths, minima))
+    return refusal_of(answer) or Shared(*(value_of(answer, name) for name in ("counts", "wholes", "remainders")))
 
 
 # Job stream

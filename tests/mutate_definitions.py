@@ -109,6 +109,7 @@ NEAREST = {
     "Decimal": ("stream",),
     "Job": ("stream",),
     "Load": ("load",),
+    "Allocation": ("sample",),
 }
 
 

@@ -8,8 +8,9 @@ definitions say (a rank is a count); the built code is tested at full size elsew
 import random
 
 import definitions
+from cases.samples import WORKED
 from definitions import number_list
-from independent import Refused, chain, frame, load, stream
+from independent import Refused, chain, frame, load, sample, stream
 
 
 def judged(value, given):
@@ -115,6 +116,21 @@ def load_cases(start, count, *rooms):
     yield f"loadAnswer {rest}", judged(told, str)
     for name, value in zip(("loadNumbers", "loadTurnovers", "loadRandoms"), after):
         yield f"{name} {rest}", number_list(value)
+
+
+def places(values):
+    """A list of the sample's 64 places, short: its front and the zeros behind it."""
+    front = max((i + 1 for i, value in enumerate(values) if value), default=0)
+    return f"({number_list(values[:front])} ++ replicate {len(values) - front} 0)"
+
+
+def sample_cases(interviews, strengths, minima):
+    told = sample.share(interviews, strengths, minima)
+    rest = f"(sharing {interviews} {number_list(strengths)} {number_list(minima)})"
+    lists = sample.Shared(*([0] * 64,) * 3) if isinstance(told, Refused) else told
+    yield f"sampleRefusal {rest}", str(getattr(told, "number", 0))
+    for name, value in zip(("sampleCounts", "sampleWholes", "sampleRemainders"), lists):
+        yield f"{name} {rest}", places(value)
 
 
 def output_cases(octets):
@@ -242,6 +258,26 @@ def load_suite(rng, count):
     for _ in range(count):
         units = rng.randint(1, 4)
         yield from load_cases(rng.randrange(2**31), units, *(list(range(40, 40 + max(0, units + faulty(rng, rng.randint(0, 1), -1)))) for _ in range(3)))
+
+
+def sample_suite(rng, count):
+    for worked in WORKED.values():
+        yield from sample_cases(*worked)
+    for sectors in (64, 65):
+        yield f"sampleRefusal (sharing 100 {number_list([1] * sectors)} {number_list([1] * sectors)})", str(31 * (sectors > 64))
+    for interviews in (6_400, 6_401):
+        yield from sample_cases(interviews, [1, 2, 4], [0, 0, 3_657])
+    for strength in (0, 1, 10**9, 10**9 + 1):
+        yield from sample_cases(9, [1, strength], [4, 5])
+    for _ in range(count):
+        sectors = rng.randint(1, 4)
+        strengths = [rng.choice([1, 1, 2, 3, 5, 7, 10**9]) for _ in range(sectors)]
+        interviews = rng.choice([0, 1, 2, 3, 5, 10, 100])
+        minima = [min(interviews // sectors, rng.choice([0, 1, 2, 3, 25])) for _ in range(sectors)]
+        minima[0] += rng.choice([0, 0, interviews - sum(minima)])
+        strengths = faulty(rng, strengths, strengths[:-1], [0] + strengths[1:], [])
+        minima = faulty(rng, minima, minima[:-1], minima + [0], [interviews + 1 - sum(minima[1:])] + minima[1:], [])
+        yield from sample_cases(interviews, strengths, minima)
 
 
 def encoded(command):
@@ -377,6 +413,7 @@ SUITES = {
     "stream": lambda rng, times: stream_suite(rng, 60 * times),
     "load": lambda rng, times: load_suite(rng, 10 * times),
     "word": lambda rng, times: word_suite(rng, 10 * times),
+    "sample": lambda rng, times: sample_suite(rng, 25 * times),
 }
 
 

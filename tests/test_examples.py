@@ -8,7 +8,8 @@ from pathlib import Path
 
 import commands
 import library
-from independent import chain, frame, load
+from cases.samples import WORKED
+from independent import chain, frame, load, sample
 
 TOP = Path(__file__).resolve().parent.parent
 NUMBERS, TURNOVERS = [11, 12, 13, 14, 15], [70_000_000, 10_000_000, 8_000_000, 7_000_000, 5_000_000]
@@ -103,4 +104,22 @@ def test_make_load(t):
             t.check(wanted in (TOP / "README.md").read_text(), "README.md shows the load", wanted)
     for words, status in ((("2147483648", "3"), 1), (("1", "0"), 1), (("1", "16385"), 1), (("1",), 2), (("-1", "3"), 2), (("x", "3"), 2)):
         done = subprocess.run([sys.executable, TOP / "examples" / "make_load.py", *words], capture_output=True, text=True)
+        t.check((done.returncode, done.stdout, bool(done.stderr)) == (status, "", True), "a fault is said", (words, done))
+
+
+def test_share_sample(t):
+    """The lines are the independent computation's; README shows one; a fault ends with a message and a status."""
+    library.built()
+    for what, (interviews, strengths, minima) in WORKED.items():
+        words = [str(interviews), *(f"{strength},{minimum}" for strength, minimum in zip(strengths, minima))]
+        done = subprocess.run([sys.executable, TOP / "examples" / "share_sample.py", *words], capture_output=True, text=True)
+        told = sample.share(interviews, strengths, minima)
+        rows = zip(range(1, len(strengths) + 1), strengths, minima, told.counts, told.wholes, told.remainders)
+        wanted = "".join(",".join(map(str, row)) + "\n" for row in rows)
+        t.check((done.returncode, done.stdout) == (0, wanted), "a sample as comma lines", (what, done.stdout, done.stderr))
+        if what == "two passes":
+            text = (TOP / "README.md").read_text()
+            t.check(wanted in text and " ".join(words) in text, "README.md shows the sample", wanted)
+    for words, status in ((("10", "6,11"), 1), (("6401", "1,1"), 1), (("10",), 2), (("10", "6"), 2), (("-1", "6,1"), 2), (("10", "x,1"), 2)):
+        done = subprocess.run([sys.executable, TOP / "examples" / "share_sample.py", *words], capture_output=True, text=True)
         t.check((done.returncode, done.stdout, bool(done.stderr)) == (status, "", True), "a fault is said", (words, done))

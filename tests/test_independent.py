@@ -14,6 +14,7 @@ from independent import Refused
 from independent.chain import Direct, Figure, Record, Total, close, open_chain, quarter, total, within_bound
 from independent.frame import Drawn, Rotated, Taken, draw, rotate, same_leavers, take_all, take_all_entry
 from independent.stream import COMMANDS, END, Job, front_word, read_command, run, step
+from independent.sample import share
 
 STREAM_REFUSALS = {1, 2, 3, 4, 5, 11, 12, 13, 15, 16, 17, 18, 19, 20, 21, 22, 23, 24}
 
@@ -60,6 +61,10 @@ def try_total(data):
     return total(**data), None
 
 
+def try_share(data):
+    return share(**data), None
+
+
 def try_read(data):
     command, rest = read_command(data["part"])
     return command, rest == data["part"]
@@ -83,6 +88,7 @@ ENTRIES = {
     "quarter_cases": (try_quarter, {9, 13, 19, 23, 24}, 300, 20_000),
     "close_cases": (try_close, {9, 13, 19, 21, 22, 23, 24}, 300, 20_000),
     "total_cases": (try_total, {14}, 300, 20_000),
+    "sample_cases": (try_share, {31}, 300, 20_000),
     "reader_cases": (try_read, {15, 16, 17}, 300, 20_000),
     "word_cases": (lambda data: (front_word(data["part"]), None), {17}, 300, 20_000),
     "stream_cases": (try_run, STREAM_REFUSALS, 20, 500),
@@ -139,7 +145,7 @@ def test_generators_repeat(t):
         t.check([case.data for case in first] != [case.data for case in other], f"{name}: seeds differ")
 
 
-WIDE = {"turnovers", "out_weights", "W", "weights", "index", "indices", "count"}
+WIDE = {"turnovers", "out_weights", "W", "weights", "index", "indices", "count", "interviews", "strengths", "minima"}
 WIDE_START = ("open_cases", "chain_cases", "load_cases")
 
 
@@ -485,6 +491,48 @@ def encoded(command):
     octet, widths = next((octet, widths) for octet, (name, widths) in COMMANDS.items() if name == command[0])
     words = [number.to_bytes(width, "big") for number, width in zip(command[1:], widths)]
     return bytes([octet]) + b"".join(words)
+
+
+def one_at_a_time(interviews, strengths, minima):
+    """Who stays if in each pass only the last sector below its minimum leaves, by whole numbers."""
+    rest, staying = interviews, list(range(len(strengths)))
+    while True:
+        total = sum(strengths[i] for i in staying)
+        low = [i for i in staying if rest * strengths[i] < minima[i] * total]
+        if not low:
+            return rest, staying
+        rest -= minima[low[-1]]
+        staying.remove(low[-1])
+
+
+def law_of_sample(t, case):
+    """The counts add to T, none is below its minimum, and a quota is its whole part and remainder; who leaves does not hang on the order."""
+    interviews, strengths, minima = (case.data[name] for name in ("interviews", "strengths", "minima"))
+    told = share(**case.data)
+    if isinstance(told, Refused):
+        return False
+    sectors = len(strengths)
+    t.check(sum(told.counts) == interviews, "the counts add to T", case)
+    t.check(all(least <= count for least, count in zip(minima, told.counts)), "none is below its minimum", case)
+    t.check(all(len(values) == 64 and not any(values[sectors:]) for values in told), "0 beyond the sectors", case)
+    rest, staying = one_at_a_time(interviews, strengths, minima)
+    total = sum(strengths[i] for i in staying)
+    for i in range(sectors):
+        whole, remainder, count = told.wholes[i], told.remainders[i], told.counts[i]
+        if i in staying:
+            t.check(whole * total + remainder == rest * strengths[i] and remainder < total, "a quota's parts", case)
+            t.check(count in (whole, whole + 1), "the whole part, or one more", case)
+        else:
+            t.check((count, whole, remainder) == (minima[i], 0, 0), "one that left", case)
+    more = [told.counts[i] > told.wholes[i] for i in staying]
+    keys = [(-told.remainders[i], i) for i in staying]
+    t.check(max([k for k, given in zip(keys, more) if given], default=(-total, -1)) < min([k for k, given in zip(keys, more) if not given], default=(1, 0)), "one more by largest remainder, earlier first", case)
+    return True
+
+
+def test_sample_laws(t):
+    accepted = sum(law_of_sample(t, case) for case in generate.sample_cases(t.seed, t.count(400, 20_000)))
+    t.check(accepted > 300, "many are accepted", accepted)
 
 
 def test_reader_laws(t):

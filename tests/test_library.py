@@ -4,7 +4,8 @@ from collections import Counter
 
 import generate
 import library
-from independent import Refused, chain, frame, load, stream
+from cases.samples import WORKED
+from independent import Refused, chain, frame, load, sample, stream
 from independent.chain import Direct, Figure, Record, within_bound
 
 # Refusals that each entry has; each must be met many times.
@@ -18,6 +19,7 @@ REFUSALS = {
     "total_cases": {14},
     "load_cases": {33},
     "word_cases": {17},
+    "sample_cases": {31},
 }
 
 
@@ -286,3 +288,24 @@ def test_two_words(t):
         t.check(library.read_command(b"\x05" + octets)[0] == ("open", both), "a start index is two words", repeat=case)
         t.check(library.read_command(b"\x01" + octets[12:] + octets)[0][2] == both, "a turnover is two words", repeat=case)
     t.check(library.front_word(b"\0\0\0\1") * 2**32 + library.front_word(b"\0\0\0\2") == 4_294_967_298, "the upper first")
+def test_sample(t):
+    compared(t, "sample_cases", 600, 30_000, lambda data: library.share(**data), lambda data: sample.share(**data))
+
+
+# The worked answers: counts, whole parts and remainders of the sectors.
+WORKED_ANSWERS = {
+    "two passes": ([2, 3, 5, 0], [1, 0, 0, 0], [4, 0, 0, 4]),
+    "remainders are not reduced": ([1, 1, 1], [0, 0, 1], [6, 6, 4]),
+    "equal remainders": ([1, 1, 0], [0, 0, 0], [2, 2, 2]),
+    "one leaves": ([43, 40, 17], [42, 0, 17], [6, 0, 1]),
+    "a quota that equals its minimum": ([2, 2], [2, 2], [0, 0]),
+    "nothing to share": ([0, 0], [0, 0], [0, 0]),
+}
+
+
+def test_worked_samples(t):
+    """Each worked case by its own numbers; beyond the sectors every place is 0."""
+    t.check(set(WORKED) == set(WORKED_ANSWERS), "each worked case has an answer")
+    for what, expected in WORKED_ANSWERS.items():
+        told = library.share(*WORKED[what])
+        t.check(tuple(told) == tuple(values + [0] * (64 - len(values)) for values in expected), what, repeat=told)

@@ -12,7 +12,7 @@ from pathlib import Path
 
 import generate
 import library
-from independent import Refused, chain, frame, load, stream
+from independent import Refused, chain, frame, load, sample, stream
 
 TOP = Path(__file__).resolve().parent.parent
 TEXT = (TOP / "docs" / "METHOD.md").read_text()
@@ -234,6 +234,31 @@ class Total(Example):
         self.facts = facts_of(sum=sum(share * index for share, index in zip(shares, indices)))
 
 
+class Sample(Example):
+    """interviews, strengths, minima; the lists' places beyond the sectors are 0 and are not stated"""
+
+    def reckon(self):
+        strengths, minima = self.lists("strengths", "minima")
+        data = (self.one("interviews"), strengths, minima)
+        answer = sample.share(*data)
+        self.same(library.share(*data), answer)
+        refused = isinstance(answer, Refused)
+        self.answers(answer, **({} if refused else {name: values[: len(strengths)] for name, values in answer._asdict().items()}))
+        self.facts = [] if refused else list(self.passes(*data))
+
+    @staticmethod
+    def passes(rest, strengths, minima):
+        """A line for each pass; sectors count from 1."""
+        staying, number = list(range(len(strengths))), 0
+        while number == 0 or low:
+            number += 1
+            total = sum(strengths[i] for i in staying)
+            low = [i for i in staying if rest * strengths[i] < minima[i] * total]
+            yield f"pass {number}: T' {rest}, strengths {total}, leaving {' '.join(str(i + 1) for i in low) or 'none'}"
+            rest -= sum(minima[i] for i in low)
+            staying = [i for i in staying if i not in low]
+
+
 class Stream(Example):
     """Commands by their names, or `raw` bytes; every printed line is stated, in order"""
 
@@ -288,6 +313,7 @@ KINDS = {
     "rotate": Rotate,
     "chain": Chain,
     "total": Total,
+    "sample": Sample,
     "stream": Stream,
     "word": Word,
 }
@@ -432,6 +458,7 @@ ENTRIES = {
     "read": (generate.reader_cases, lambda data: stream.read_command(data["part"])[0]),
     "load": (generate.load_cases, lambda data: load.load(**data)[0]),
     "word": (generate.word_cases, lambda data: stream.front_word(data["part"])),
+    "sample": (generate.sample_cases, lambda data: sample.share(**data)),
 }
 
 
@@ -523,6 +550,7 @@ WORDS = {
     21: [LIMIT["leastWeight"]],
     22: [LIMIT["mostWeight"]],
     23: INDEX,
+    31: [LIMIT["mostSectors"], LIMIT["mostInterviews"]],
     33: [LIMIT["stateRange"], 0, LIMIT["mostFrame"]],
 }
 
@@ -530,7 +558,7 @@ WORDS = {
 def test_refusals(t):
     """All numbers, each with the limits in its words, and with the entries that the orders name for it."""
     rows = table("### All refusals")
-    t.check([int(row[0]) for row in rows] == [*range(1, 25), 33], "METHOD.md: 1 to 24, and 33", [row[0] for row in rows])
+    t.check([int(row[0]) for row in rows] == [*range(1, 25), 31, 33], "METHOD.md: 1 to 24, 31 and 33", [row[0] for row in rows])
     orders = {entry: numbers_in(order) for entry, order in table("### Orders of the entries")}
     commands = [number for _, order in table("### Orders of the stream") for number in numbers_in(order)]
     for number, words, places in rows:

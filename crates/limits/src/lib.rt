@@ -69,6 +69,14 @@ pub const STATE_ADDEND: u64 = 12_345;
 // A turnover of a test load is at most this.
 pub const TURNOVER_RANGE: u64 = 10_000_000;
 
+// ---- sample over sectors
+// A sector's strength.
+pub const LOWEST_STRENGTH: u64 = 1;
+
+pub const HIGHEST_STRENGTH: u64 = 1_000_000_000;
+
+pub const MOST_INTERVIEWS: u64 = 6_400;
+
 // The range of an index, which 12, 14, 19 and 23 share.
 pub fn bad_index(c: u64) -> bool
     ensures { λ r. ⌜ r ≡ badIndex c ⌝ }

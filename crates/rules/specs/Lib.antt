@@ -16,3 +16,4 @@ pub mod Lines
 pub mod Job
 pub mod Load
 pub mod Word
+pub mod Allocation

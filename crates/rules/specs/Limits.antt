@@ -104,3 +104,15 @@ stateAddend = 12345
 -- a turnover of a test load is at most this
 abbrev pub turnoverRange : ℕ
 turnoverRange = 10000000
+
+-- ---- sample over sectors (document 02, [10], refusal 31)
+-- a sector's strength
+abbrev pub lowestStrength : ℕ
+lowestStrength = 1
+
+abbrev pub highestStrength : ℕ
+highestStrength = 1000000000
+
+-- T
+abbrev pub mostInterviews : ℕ
+mostInterviews = 6400
