@@ -8,8 +8,9 @@ definitions say (a rank is a count); the built code is tested at full size elsew
 import random
 
 import definitions
+from cases import registers
 from definitions import number_list
-from independent import Refused, chain, frame, load, stream
+from independent import Refused, chain, frame, load, register, stream
 
 
 def judged(value, given):
@@ -110,6 +111,20 @@ def load_cases(start, count, *rooms):
     rest = f"{start} {count} " + " ".join(map(number_list, rooms))
     yield f"loadAnswer {rest}", judged(told, str)
     for name, value in zip(("loadNumbers", "loadTurnovers", "loadRandoms"), after):
+        yield f"{name} {rest}", number_list(value)
+
+
+def register_answer(told):
+    if isinstance(told, register.BadLine):
+        return f"Imported.badLine {told.offset}"
+    return "Imported.tooMany" if told == Refused(35) else f"Imported.units {told}"
+
+
+def register_cases(text, *lists):
+    told, *after = register.import_lists(text, *lists)
+    rest = f"{number_list(text)} " + " ".join(map(number_list, lists))
+    yield f"imported {number_list(text)} (roomOf {' '.join(map(number_list, lists))})", register_answer(told)
+    for name, value in zip(("importedNumbers", "importedTurnovers", "importedRandoms"), after):
         yield f"{name} {rest}", number_list(value)
 
 
@@ -230,6 +245,24 @@ def load_suite(rng, count):
     for _ in range(count):
         units = rng.randint(1, 4)
         yield from load_cases(rng.randrange(2**31), units, *(list(range(40, 40 + max(0, units + faulty(rng, rng.randint(0, 1), -1)))) for _ in range(3)))
+
+
+def register_suite(rng, count):
+    """The worked texts, and random and damaged ones of a few lines."""
+    for text, places, _ in registers.WORKED:
+        yield from register_cases(text, [8] * places, [7] * places, [6] * (places + 1))
+    for rooms in ((1, 2, 2), (2, 1, 2), (2, 2, 1), (2, 3, 4), (4, 2, 3), (3, 4, 2)):
+        yield from register_cases(b"1,2,3\n4,5,6\n", *([9] * room for room in rooms))
+    yield "importNumber Imported.tooMany", "35"
+    yield "importNumber (Imported.badLine 5)", "34"
+    yield "importCount Imported.tooMany", "0"
+    yield "importCount (Imported.badLine 5)", "0"
+    for _ in range(count):
+        lines = rng.randint(0, 3)
+        text = registers.some_text(rng, lines)
+        for _ in range(rng.choice((0, 1, 1, 2))):
+            text = registers.damaged(rng, text)
+        yield from register_cases(text, *(list(range(40, 40 + max(0, lines + rng.choice((-1, 0, 0, 1))))) for _ in range(3)))
 
 
 def encoded(command):
@@ -364,6 +397,7 @@ SUITES = {
     "total": lambda rng, times: total_suite(rng, 40 * times),
     "stream": lambda rng, times: stream_suite(rng, 60 * times),
     "load": lambda rng, times: load_suite(rng, 10 * times),
+    "register": lambda rng, times: register_suite(rng, 40 * times),
 }
 
 

@@ -30,6 +30,8 @@ REFUSALS = {
     23: ("FigureRange", "F outside 10^8 to 10^10"),
     24: ("ClosesSpent", "forty closes accepted (quarter too)"),
     33: ("TestLoad", "the start is 2^31 or more, or the count is 0 or over 16,384, or a buffer is shorter"),
+    34: ("RegisterLine", "a line is not of this form"),
+    35: ("RegisterRoom", "there are more lines than the list holds"),
 }
 
 

@@ -28,6 +28,8 @@ pub enum Refusal {
     FigureRange,
     ClosesSpent,
     TestLoad,
+    RegisterLine,
+    RegisterRoom,
 }
 
 // What a group of tests finds: the first refusal that applies, or none.
@@ -67,6 +69,8 @@ impl Refusal {
             Refusal::FigureRange => 23,
             Refusal::ClosesSpent => 24,
             Refusal::TestLoad => 33,
+            Refusal::RegisterLine => 34,
+            Refusal::RegisterRoom => 35,
         }
     }
 }
