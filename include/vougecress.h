@@ -3,7 +3,8 @@
  *
  * Lists are lent for the length of a call: a pointer and a count of elements. A call reads its input lists and writes only
  * what is said below. Every function takes any list and any number. It answers a result, with `refusal` 0, or one refusal
- * number of document 01, with every other field of the answer 0; after a refusal every lent list is as it was.
+ * number of document 01, with every other field of the answer 0 (34 alone comes with an offset); after a refusal every
+ * lent list is as it was.
  * A null pointer is allowed where the count is 0. Lists that are lent to be written may not overlap other lists of the call.
  * No call asks for memory of its own but on the stack, of which it takes up to 256 KB. Nothing is kept between calls, so that
  * threads may call at once, each with its own lists.
@@ -62,6 +63,9 @@ enum vougecress_refusal {
     VOUGECRESS_REFUSED_CLOSES_SPENT = 24,    /* forty closes accepted (quarter too) */
     VOUGECRESS_REFUSED_SAMPLE = 31,          /* the lists are unequal, empty or over 64, a strength is out of range, T is over 6,400 or the minima together exceed T */
     VOUGECRESS_REFUSED_TEST_LOAD = 33        /* the start is 2^31 or more, or the count is 0 or over 16,384, or a buffer is shorter */
+    VOUGECRESS_REFUSED_TEST_LOAD = 33,       /* the start is 2^31 or more, or the count is 0 or over 16,384, or a buffer is shorter */
+    VOUGECRESS_REFUSED_REGISTER_LINE = 34,   /* a line is not of this form */
+    VOUGECRESS_REFUSED_REGISTER_ROOM = 35    /* there are more lines than the list holds */
 };
 
 /* ---- Limits of document 01. A number beyond one is refused, never cut. */
@@ -88,6 +92,7 @@ enum vougecress_refusal {
 #define VOUGECRESS_LOWEST_STRENGTH 1                         /* the range of a sector's strength in a sample */
 #define VOUGECRESS_HIGHEST_STRENGTH UINT64_C(1000000000)
 #define VOUGECRESS_MOST_INTERVIEWS 6400                      /* interviews of a sample */
+#define VOUGECRESS_MOST_FIELD 20                             /* digits of a field of a register's line */
 
 /* ---- Chain record ("Chain record")
  *
@@ -282,6 +287,39 @@ struct vougecress_allocation {
 struct vougecress_allocation vougecress_sample(uint64_t interviews,
                                                const uint64_t *strengths, size_t strengths_count,
                                                const uint64_t *minima, size_t minima_count);
+
+/* ---- Registers as comma lines (document 02, [14]) */
+
+struct vougecress_register {
+    uint32_t refusal;
+    uint64_t count;  /* units filled */
+    uint64_t offset; /* with refusal 34, and with it alone: the byte, from 0, where the first bad line begins */
+};
+
+struct vougecress_unit {
+    uint32_t number;
+    uint64_t turnover;
+    uint32_t random;
+};
+
+/*
+ * Imports a register: a text of any length, of lines of three decimal fields, number, turnover and random number, separated
+ * by commas and ended by a line feed. One carriage return may stand directly before the line feed. The last line feed may be
+ * missing, then with no carriage return. A field has 1 to 20 digits, leading zeros among them, and nothing else; number and
+ * random number fit 32 bits, the turnover 64. A text of no bytes has no lines; an empty line is refused.
+ * Line i fills place i of the three lists, in the order of the text; places beyond the count stay. The lists hold as many
+ * units as the shortest has places. The draw judges its own, tighter limits.
+ * Refusal 34: a line is not of this form; `offset` says where the first such line begins. Refusal 35: more lines than places.
+ * All lines are judged before one is written: 34 is given wherever the bad line stands, and after both every list is as it was.
+ */
+struct vougecress_register vougecress_import(const uint8_t *text, size_t text_count,
+                                             uint32_t *numbers, size_t numbers_count,
+                                             uint64_t *turnovers, size_t turnovers_count,
+                                             uint32_t *randoms, size_t randoms_count);
+
+/* The same into a list of units. */
+struct vougecress_register vougecress_import_units(const uint8_t *text, size_t text_count,
+                                                   struct vougecress_unit *list, size_t list_count);
 
 #ifdef __cplusplus
 }

@@ -12,6 +12,7 @@ from cases.frames import draw_cases, large_draw_cases, near_draw_cases, rotate_c
 from cases.loads import load_cases
 from cases.streams import LISTING, many_draw_cases, reader_cases, stream_cases, word_cases
 from cases.samples import sample_cases
+from cases.registers import register_cases
 
 __all__ = [
     "GENERATORS",
@@ -30,6 +31,7 @@ __all__ = [
     "open_cases",
     "quarter_cases",
     "reader_cases",
+    "register_cases",
     "rotate_cases",
     "sample_cases",
     "stream_cases",

@@ -15,6 +15,7 @@ from independent import Refused
 from independent.chain import Figure, Record, Total
 from independent.frame import Drawn, Rotated, Taken
 from independent.sample import Shared
+from independent.register import BadLine
 from independent.stream import END
 
 TOP = Path(__file__).resolve().parent.parent
@@ -39,6 +40,13 @@ LoadAnswer = answer_type(("count", c_uint64))
 Places = c_uint64 * 64
 SampleAnswer = answer_type(("counts", Places), ("wholes", Places), ("remainders", Places))
 RunAnswer = answer_type(("length", c_uint64))
+RegisterAnswer = answer_type(("count", c_uint64), ("offset", c_uint64))
+
+
+class Unit(Structure):
+    _fields_ = [("number", c_uint32), ("turnover", c_uint64), ("random", c_uint32)]
+
+
 
 # name -> answer type and parameter types; a list is a pointer and a count
 SIGNATURES = {
@@ -51,12 +59,14 @@ SIGNATURES = {
     "vougecress_rotate": (RotatedAnswer, ("u32s", "u64s", "u32s", c_size_t, c_uint32, "u32s", c_uint32, "u32s")),
     "vougecress_load": (LoadAnswer, (c_uint64, c_size_t, "u32s", "u64s", "u32s")),
     "vougecress_sample": (SampleAnswer, (c_uint64, "u64s", "u64s")),
+    "vougecress_import": (RegisterAnswer, ("octets", "u32s", "u64s", "u32s")),
+    "vougecress_import_units": (RegisterAnswer, ("octets", "units")),
     "vougecress_read": (ReadAnswer, ("octets",)),
     "vougecress_word": (WordAnswer, ("octets",)),
     "vougecress_run": (RunAnswer, ("octets", "octets")),
     "vougecress_run_length": (c_uint64, ("octets",)),
 }
-ELEMENTS = {"u8s": c_uint8, "u32s": c_uint32, "u64s": c_uint64, "octets": c_uint8}
+ELEMENTS = {"u8s": c_uint8, "u32s": c_uint32, "u64s": c_uint64, "octets": c_uint8, "units": Unit}
 
 
 @cache
@@ -200,6 +210,27 @@ def share(interviews, strengths, minima):
     answer, lists = call("vougecress_sample", interviews, strengths, minima)
     unchanged(lists, (strengths, minima))
     return refusal_of(answer) or Shared(*(value_of(answer, name) for name in ("counts", "wholes", "remainders")))
+# Registers
+
+
+def imported(answer):
+    """The count, `BadLine` with its offset, or Refused; only 34 has an offset."""
+    if answer.refusal == 34:
+        return BadLine(offset=answer.offset) if answer.count == 0 else ("34 with a count", answer.count)
+    return refusal_of(answer) or (answer.count if answer.offset == 0 else ("an offset without 34", answer.offset))
+
+
+def import_lists(text, numbers, turnovers, randoms):
+    answer, (read, *lists) = call("vougecress_import", text, numbers, turnovers, randoms)
+    unchanged([read], [text])
+    return imported(answer), *lists
+
+
+def import_units(text, units):
+    """Units are tuples of number, turnover and random number."""
+    answer, (read, after) = call("vougecress_import_units", text, units)
+    unchanged([read], [text])
+    return imported(answer), [(unit.number, unit.turnover, unit.random) for unit in after]
 
 
 # Job stream

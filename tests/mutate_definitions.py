@@ -110,6 +110,7 @@ NEAREST = {
     "Job": ("stream",),
     "Load": ("load",),
     "Allocation": ("sample",),
+    "Register": ("register",),
 }
 
 

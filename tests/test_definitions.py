@@ -10,7 +10,8 @@ import random
 import definitions
 from cases.samples import WORKED
 from definitions import number_list
-from independent import Refused, chain, frame, load, sample, stream
+from independent import Refused, chain, frame, load, register, sample, stream
+from cases import registers
 
 
 def judged(value, given):
@@ -131,6 +132,18 @@ def sample_cases(interviews, strengths, minima):
     yield f"sampleRefusal {rest}", str(getattr(told, "number", 0))
     for name, value in zip(("sampleCounts", "sampleWholes", "sampleRemainders"), lists):
         yield f"{name} {rest}", places(value)
+def register_answer(told):
+    if isinstance(told, register.BadLine):
+        return f"Imported.badLine {told.offset}"
+    return "Imported.tooMany" if told == Refused(35) else f"Imported.units {told}"
+
+
+def register_cases(text, *lists):
+    told, *after = register.import_lists(text, *lists)
+    rest = f"{number_list(text)} " + " ".join(map(number_list, lists))
+    yield f"imported {number_list(text)} (roomOf {' '.join(map(number_list, lists))})", register_answer(told)
+    for name, value in zip(("importedNumbers", "importedTurnovers", "importedRandoms"), after):
+        yield f"{name} {rest}", number_list(value)
 
 
 def output_cases(octets):
@@ -278,6 +291,22 @@ def sample_suite(rng, count):
         strengths = faulty(rng, strengths, strengths[:-1], [0] + strengths[1:], [])
         minima = faulty(rng, minima, minima[:-1], minima + [0], [interviews + 1 - sum(minima[1:])] + minima[1:], [])
         yield from sample_cases(interviews, strengths, minima)
+def register_suite(rng, count):
+    """The worked texts, and random and damaged ones of a few lines."""
+    for text, places, _ in registers.WORKED:
+        yield from register_cases(text, [8] * places, [7] * places, [6] * (places + 1))
+    for rooms in ((1, 2, 2), (2, 1, 2), (2, 2, 1), (2, 3, 4), (4, 2, 3), (3, 4, 2)):
+        yield from register_cases(b"1,2,3\n4,5,6\n", *([9] * room for room in rooms))
+    yield "importNumber Imported.tooMany", "35"
+    yield "importNumber (Imported.badLine 5)", "34"
+    yield "importCount Imported.tooMany", "0"
+    yield "importCount (Imported.badLine 5)", "0"
+    for _ in range(count):
+        lines = rng.randint(0, 3)
+        text = registers.some_text(rng, lines)
+        for _ in range(rng.choice((0, 1, 1, 2))):
+            text = registers.damaged(rng, text)
+        yield from register_cases(text, *(list(range(40, 40 + max(0, lines + rng.choice((-1, 0, 0, 1))))) for _ in range(3)))
 
 
 def encoded(command):
@@ -414,6 +443,7 @@ SUITES = {
     "load": lambda rng, times: load_suite(rng, 10 * times),
     "word": lambda rng, times: word_suite(rng, 10 * times),
     "sample": lambda rng, times: sample_suite(rng, 25 * times),
+    "register": lambda rng, times: register_suite(rng, 40 * times),
 }
 
 

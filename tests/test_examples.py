@@ -9,7 +9,7 @@ from pathlib import Path
 import commands
 import library
 from cases.samples import WORKED
-from independent import chain, frame, load, sample
+from independent import chain, frame, load, register, sample
 
 TOP = Path(__file__).resolve().parent.parent
 NUMBERS, TURNOVERS = [11, 12, 13, 14, 15], [70_000_000, 10_000_000, 8_000_000, 7_000_000, 5_000_000]
@@ -123,3 +123,33 @@ def test_share_sample(t):
     for words, status in ((("10", "6,11"), 1), (("6401", "1,1"), 1), (("10",), 2), (("10", "6"), 2), (("-1", "6,1"), 2), (("10", "x,1"), 2)):
         done = subprocess.run([sys.executable, TOP / "examples" / "share_sample.py", *words], capture_output=True, text=True)
         t.check((done.returncode, done.stdout, bool(done.stderr)) == (status, "", True), "a fault is said", (words, done))
+def drawn(folder, name, text, *words):
+    """What examples/draw_register.py answers to a register."""
+    (folder / name).write_bytes(text)
+    done = subprocess.run([sys.executable, TOP / "examples" / "draw_register.py", name, *words], cwd=folder, capture_output=True, text=True)
+    return done.returncode, done.stdout, done.stderr
+
+
+def test_draw_register(t):
+    """File, import and draw; what each refusal looks like is what README shows."""
+    library.built()
+    readme = (TOP / "README.md").read_text()
+    text = (TOP / "examples" / "register.csv").read_bytes()
+    numbers, turnovers, randoms = map(list, zip(*register.units_of(text)))
+    answer, panel, weights = frame.draw(numbers, turnovers, randoms, 3, 0, [0] * 3, [0] * 3)
+    wanted = f"N {answer.n} {answer.X}\n" + "".join(f"P {unit} {weight}\n" for unit, weight in zip(panel, weights))
+    t.check(wanted in readme, "README.md shows the panel", wanted)
+    with tempfile.TemporaryDirectory() as folder:
+        folder = Path(folder)
+        t.check(drawn(folder, "good.csv", text, "3", "0") == (0, wanted, ""), "the panel of a register")
+        first, rest = text[:38], text[38:]
+        status, printed, said = drawn(folder, "broken.csv", first + b"number,turnover,random\n" + rest, "3", "0")
+        t.check((status, printed, said in readme) == (1, "", True), "34 with offset and line, as README shows it", said)
+        status, printed, said = drawn(folder, "long.csv", b"1,2,3\n" * 16_385, "3", "0")
+        t.check((status, printed) == (1, "") and "refusal 35: more than 16,384 lines" in said, "35", said)
+        status, printed, said = drawn(folder, "empty.csv", b"", "3", "0")
+        t.check((status, printed) == (1, "") and "refused by 1 " in said, "no units: the draw's own refusal", said)
+        for words in ((), ("3",), ("3", "x"), ("-1", "0")):
+            t.check(drawn(folder, "good.csv", text, *words)[0] == 2, "wrong use", words)
+        done = subprocess.run([sys.executable, TOP / "examples" / "draw_register.py", "none.csv", "3", "0"], cwd=folder, capture_output=True, text=True)
+        t.check((done.returncode, bool(done.stderr)) == (2, True), "no such file", done.stderr)

@@ -15,6 +15,7 @@ from independent.chain import Direct, Figure, Record, Total, close, open_chain, 
 from independent.frame import Drawn, Rotated, Taken, draw, rotate, same_leavers, take_all, take_all_entry
 from independent.stream import COMMANDS, END, Job, front_word, read_command, run, step
 from independent.sample import share
+from independent.register import BadLine, import_lists, line_number, units_of
 
 STREAM_REFUSALS = {1, 2, 3, 4, 5, 11, 12, 13, 15, 16, 17, 18, 19, 20, 21, 22, 23, 24}
 
@@ -154,7 +155,7 @@ def widest(data, name):
     value = data[name]
     if name == "calls":
         return max((p for _, relatives in value for p in relatives), default=0)
-    if isinstance(value, list):
+    if isinstance(value, (list, bytes)):
         return max(value, default=0)
     return value
 
@@ -641,3 +642,38 @@ def test_refused_and_figure_differ(t):
     t.check(Drawn(1, 2) != (1, 2) and Refused(5) == Refused(5), "values agree")
     t.check(Record(1, [0], 1, 0) != Record(1, [1], 1, 0), "records differ by a weight")
     t.check(Record(1, [7], 1, 0) == Record(1, [7], 1, 0), "records agree by their values")
+
+
+# Registers
+
+
+def test_worked_registers(t):
+    """The worked texts of document 02's reading, with their offsets."""
+    room = ([1], [2], [3])
+    for text, offset in (
+        (b"1,2,3\n4,5,6\nx", 12),
+        (b"18446744073709551617,2,3", 0),
+        (b"1,2,3\r", 0),
+        (b"1,2,3\n\n", 6),
+        (b"1,2,3\n ", 6),
+        (b"1,2,3\r\n4,5,6\r\n\r\n", 14),
+    ):
+        t.check(import_lists(text, *room) == (BadLine(offset=offset), *room), "34 at its offset, nothing written", text)
+    t.check(import_lists(b"1,2,3\n4,5,6\n", *room) == (Refused(35), *room), "35, nothing written")
+    t.check(import_lists(b"7,8,9", [1, 4], [2, 5], [3, 6]) == (1, [7, 4], [8, 5], [9, 6]), "places beyond stay")
+    t.check(import_lists(b"", [], [], []) == (0, [], [], []), "no lines")
+
+
+def test_register_laws(t):
+    """A good text is its units printed; a bad line is the first, and the text before it is good."""
+    for case in generate.register_cases(t.seed, t.count(300, 5_000)):
+        text = case.data["text"]
+        units = units_of(text)
+        if isinstance(units, BadLine):
+            before = text[: units.offset]
+            t.check(not before or before.endswith(b"\n"), "a line begins after a line feed", case)
+            t.check(line_number(text, units.offset) == len(units_of(before)) + 1, "all lines before it are good", case)
+        else:
+            printed = b"".join(b"%d,%d,%d\n" % unit for unit in units)
+            t.check(units_of(printed) == units, "the units printed are the same units", case)
+            t.check(len(units) == text.count(b"\n") + (text[-1:] not in (b"", b"\n")), "a unit a line", case)

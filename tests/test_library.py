@@ -5,7 +5,7 @@ from collections import Counter
 import generate
 import library
 from cases.samples import WORKED
-from independent import Refused, chain, frame, load, sample, stream
+from independent import Refused, chain, frame, load, register, sample, stream
 from independent.chain import Direct, Figure, Record, within_bound
 
 # Refusals that each entry has; each must be met many times.
@@ -20,6 +20,7 @@ REFUSALS = {
     "load_cases": {33},
     "word_cases": {17},
     "sample_cases": {31},
+    "register_cases": {34, 35},
 }
 
 
@@ -309,3 +310,31 @@ def test_worked_samples(t):
     for what, expected in WORKED_ANSWERS.items():
         told = library.share(*WORKED[what])
         t.check(tuple(told) == tuple(values + [0] * (64 - len(values)) for values in expected), what, repeat=told)
+def test_import(t):
+    compared(t, "register_cases", 400, 20_000, lambda data: library.import_lists(**data), lambda data: register.import_lists(**data))
+
+
+def test_import_units(t):
+    """The same texts into a list of unit records."""
+    for case in generate.register_cases(t.seed, 4_000 if t.long else 200):
+        text, *lists = case.data.values()
+        units = list(zip(*lists))
+        t.check(library.import_units(text, units) == register.import_units(text, units), "as the independent computation", repeat=case)
+
+
+def test_damaged_registers(t):
+    """Every byte of a text changed to each of the bytes that matter, left out, and put in."""
+    text = b"1,2,3\r\n4294967295,18446744073709551615,00000000004294967295\n70,80,90"
+    room = [[5] * 3, [6] * 3, [7] * 3]
+    for at in range(len(text) + 1):
+        for byte in b"09,\n\r x/:\x00\xff":
+            for damaged in (text[:at] + bytes([byte]) + text[at + 1 :], text[:at] + bytes([byte]) + text[at:], text[:at] + text[at + 1 :], text[:at]):
+                t.check(library.import_lists(damaged, *room) == register.import_lists(damaged, *room), "as the independent computation", repeat=damaged)
+
+
+def test_long_register(t):
+    """A text of many megabytes, refused by its last line or for its length: every list as it was."""
+    lines = b"1,2,3\n" * 1_000_000
+    room = [[5] * 10, [6] * 10, [7] * 10]
+    t.check(library.import_lists(lines, *room) == (Refused(35), *room), "more lines than places")
+    t.check(library.import_lists(lines + b"1,2,3\r", *room) == (register.BadLine(offset=len(lines)), *room), "the last line is bad")

@@ -12,7 +12,7 @@ from pathlib import Path
 
 import generate
 import library
-from independent import Refused, chain, frame, load, sample, stream
+from independent import Refused, chain, frame, load, register, sample, stream
 
 TOP = Path(__file__).resolve().parent.parent
 TEXT = (TOP / "docs" / "METHOD.md").read_text()
@@ -447,6 +447,11 @@ def record_of(data):
     return chain.Record(data["units"], data["weights"], data["index"], data["closes"])
 
 
+def number_of(answer):
+    """A refusal's number without what comes with it."""
+    return Refused(answer.number) if isinstance(answer, Refused) else answer
+
+
 ENTRIES = {
     "take-all": (generate.take_all_cases, lambda data: frame.take_all_entry(**data)[0]),
     "draw": (generate.draw_cases, lambda data: frame.draw(**data)[0]),
@@ -459,6 +464,7 @@ ENTRIES = {
     "load": (generate.load_cases, lambda data: load.load(**data)[0]),
     "word": (generate.word_cases, lambda data: stream.front_word(data["part"])),
     "sample": (generate.sample_cases, lambda data: sample.share(**data)),
+    "import": (generate.register_cases, lambda data: number_of(register.import_lists(**data)[0])),
 }
 
 
@@ -558,7 +564,7 @@ WORDS = {
 def test_refusals(t):
     """All numbers, each with the limits in its words, and with the entries that the orders name for it."""
     rows = table("### All refusals")
-    t.check([int(row[0]) for row in rows] == [*range(1, 25), 31, 33], "METHOD.md: 1 to 24, 31 and 33", [row[0] for row in rows])
+    t.check([int(row[0]) for row in rows] == [*range(1, 25), 31, 33, 34, 35], "METHOD.md: each number", [row[0] for row in rows])
     orders = {entry: numbers_in(order) for entry, order in table("### Orders of the entries")}
     commands = [number for _, order in table("### Orders of the stream") for number in numbers_in(order)]
     for number, words, places in rows:

@@ -31,6 +31,8 @@ REFUSALS = {
     24: ("ClosesSpent", "forty closes accepted (quarter too)"),
     31: ("Sample", "the lists are unequal, empty or over 64, a strength is out of range, T is over 6,400 or the minima together exceed T"),
     33: ("TestLoad", "the start is 2^31 or more, or the count is 0 or over 16,384, or a buffer is shorter"),
+    34: ("RegisterLine", "a line is not of this form"),
+    35: ("RegisterRoom", "there are more lines than the list holds"),
 }
 
 

@@ -77,6 +77,15 @@ pub const HIGHEST_STRENGTH: u64 = 1_000_000_000;
 
 pub const MOST_INTERVIEWS: u64 = 6_400;
 
+// ---- registers as comma lines
+// Digits of a field.
+pub const MOST_FIELD: usize = 20;
+
+// A number of 32 bits, and one of 64.
+pub const MOST_SHORT: u64 = 4_294_967_295;
+
+pub const MOST_LONG: u64 = 18_446_744_073_709_551_615;
+
 // The range of an index, which 12, 14, 19 and 23 share.
 pub fn bad_index(c: u64) -> bool
     ensures { λ r. ⌜ r ≡ badIndex c ⌝ }

@@ -1,7 +1,7 @@
 -- Document 01, "Refusals caused by the input" and "… by the state": the number of each case.
 use Prim.Native.Nat.{ℕ}
 use Rattle.refusals.specs.declared.Refusal.{Refusal}
-use Rattle.refusals.specs.declared.Refusal.the-variants.{FrameLists, UnitNumbers, Turnovers, RandomNumbers, PanelSize, ResultBuffer, OldPanel, NoStep, UnitLists, BaseWeights, Shares, StartIndex, Relatives, Sectors, StreamLength, UnknownCommand, CutShort, Place, State, FrameFull, LowWeight, WeightSum, FigureRange, ClosesSpent, TestLoad, Sample}
+use Rattle.refusals.specs.declared.Refusal.the-variants.{FrameLists, UnitNumbers, Turnovers, RandomNumbers, PanelSize, ResultBuffer, OldPanel, NoStep, UnitLists, BaseWeights, Shares, StartIndex, Relatives, Sectors, StreamLength, UnknownCommand, CutShort, Place, State, FrameFull, LowWeight, WeightSum, FigureRange, ClosesSpent, TestLoad, Sample, RegisterLine, RegisterRoom}
 use Rattle.refusals.specs.declared.Verdict.{Verdict}
 use Rattle.refusals.specs.declared.Verdict.the-variants.{Accepted, Refused}
 
@@ -58,6 +58,10 @@ numberOf ClosesSpent = 24
 numberOf TestLoad = 33
 -- document 02, [10]: "the lists are unequal, empty or over 64, a strength is out of range, T is over 6,400 or the minima together exceed T"
 numberOf Sample = 31
+-- document 02, [14]: "a line is not of this form"
+numberOf RegisterLine = 34
+-- "there are more lines than the list holds"
+numberOf RegisterRoom = 35
 
 -- 0 where no refusal applies
 abbrev pub verdictOf : Verdict → ℕ

@@ -29,6 +29,8 @@ pub enum Refusal {
     ClosesSpent,
     TestLoad,
     Sample,
+    RegisterLine,
+    RegisterRoom,
 }
 
 // What a group of tests finds: the first refusal that applies, or none.
@@ -69,6 +71,8 @@ impl Refusal {
             Refusal::ClosesSpent => 24,
             Refusal::TestLoad => 33,
             Refusal::Sample => 31,
+            Refusal::RegisterLine => 34,
+            Refusal::RegisterRoom => 35,
         }
     }
 }

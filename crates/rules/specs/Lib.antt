@@ -17,3 +17,4 @@ pub mod Job
 pub mod Load
 pub mod Word
 pub mod Allocation
+pub mod Register

@@ -116,3 +116,15 @@ highestStrength = 1000000000
 -- T
 abbrev pub mostInterviews : ℕ
 mostInterviews = 6400
+
+-- ---- registers as comma lines (document 02, [14], refusal 34)
+-- digits of a field
+abbrev pub mostField : ℕ
+mostField = 20
+
+-- a number of 32 bits, and one of 64
+abbrev pub mostShort : ℕ
+mostShort = 4294967295
+
+abbrev pub mostLong : ℕ
+mostLong = 18446744073709551615
