@@ -60,6 +60,7 @@ enum vougecress_refusal {
     VOUGECRESS_REFUSED_WEIGHT_SUM = 22,      /* sum of v over 10^14, at open or after close */
     VOUGECRESS_REFUSED_FIGURE_RANGE = 23,    /* F outside 10^8 to 10^10 */
     VOUGECRESS_REFUSED_CLOSES_SPENT = 24,    /* forty closes accepted (quarter too) */
+    VOUGECRESS_REFUSED_SHEET_LINE = 32,      /* a name is otherwise, a figure is outside 10^8 to 10^10 or the buffer is shorter than 49 bytes (a name is 1 to 20 printable ASCII bytes) */
     VOUGECRESS_REFUSED_TEST_LOAD = 33        /* the start is 2^31 or more, or the count is 0 or over 16,384, or a buffer is shorter */
 };
 
@@ -84,6 +85,8 @@ enum vougecress_refusal {
 #define VOUGECRESS_MOST_STREAM 32768                         /* bytes of a job stream */
 #define VOUGECRESS_MOST_HELD 1024                            /* units that a job stream holds */
 #define VOUGECRESS_STATE_RANGE UINT64_C(2147483648)          /* the start of a test load is below this */
+#define VOUGECRESS_NAME_COLUMNS 20                           /* bytes of a sector's name on the quarterly sheet */
+#define VOUGECRESS_LINE_BYTES 49                             /* bytes of a line of the sheet, its line feed among them */
 
 /* ---- Chain record ("Chain record")
  *
@@ -242,6 +245,23 @@ struct vougecress_loaded vougecress_load(uint64_t start, size_t count,
                                          uint32_t *numbers, size_t numbers_count,
                                          uint64_t *turnovers, size_t turnovers_count,
                                          uint32_t *randoms, size_t randoms_count);
+
+/* ---- Quarterly sheet (document 02, [12]) */
+
+struct vougecress_laid {
+    uint32_t refusal;
+    int64_t change; /* hundredths of a percent against the year before, floored */
+    uint64_t rest;  /* (figure - year_before) x 10,000 = change x year_before + rest, 0 <= rest < year_before */
+};
+
+/*
+ * Lays one line of the sheet into the first 49 bytes of `out`; bytes beyond stay, and no zero byte is added. A line is the
+ * sector's name, 20 columns, left; the figure in index points with seven decimals, 14 columns, right; the change with two
+ * decimals and a minus sign where it is negative, 14 columns, right; and a line feed. The figure of a total can be printed too.
+ * Refusal 32: a name that is not 1 to 20 bytes of 32 to 126, a figure outside 10^8 to 10^10, or `out` shorter than 49 bytes.
+ */
+struct vougecress_laid vougecress_sheet(const uint8_t *name, size_t name_count, uint64_t figure, uint64_t year_before,
+                                        uint8_t *out, size_t out_count);
 
 #ifdef __cplusplus
 }

@@ -7,13 +7,14 @@ so a place that the library wrote without leave shows.
 
 import ctypes
 import subprocess
-from ctypes import POINTER, Structure, c_size_t, c_uint8, c_uint32, c_uint64
+from ctypes import POINTER, Structure, c_int64, c_size_t, c_uint8, c_uint32, c_uint64
 from functools import cache
 from pathlib import Path
 
 from independent import Refused
 from independent.chain import Figure, Record, Total
 from independent.frame import Drawn, Rotated, Taken
+from independent.sheet import Change
 from independent.stream import END
 
 TOP = Path(__file__).resolve().parent.parent
@@ -34,6 +35,7 @@ ReadAnswer = answer_type(
     ("command", c_uint32), ("taken", c_uint64), ("first", c_uint64), ("second", c_uint64), ("third", c_uint64)
 )
 LoadAnswer = answer_type(("count", c_uint64))
+SheetAnswer = answer_type(("change", c_int64), ("rest", c_uint64))
 RunAnswer = answer_type(("length", c_uint64))
 
 # name -> answer type and parameter types; a list is a pointer and a count
@@ -46,6 +48,7 @@ SIGNATURES = {
     "vougecress_draw": (DrawnAnswer, ("u32s", "u64s", "u32s", c_size_t, c_uint32, "u32s", "u64s")),
     "vougecress_rotate": (RotatedAnswer, ("u32s", "u64s", "u32s", c_size_t, c_uint32, "u32s", c_uint32, "u32s")),
     "vougecress_load": (LoadAnswer, (c_uint64, c_size_t, "u32s", "u64s", "u32s")),
+    "vougecress_sheet": (SheetAnswer, ("octets", c_uint64, c_uint64, "octets")),
     "vougecress_read": (ReadAnswer, ("octets",)),
     "vougecress_run": (RunAnswer, ("octets", "octets")),
     "vougecress_run_length": (c_uint64, ("octets",)),
@@ -180,6 +183,12 @@ def rotate(numbers, turnovers, randoms, z, old_start, old_panel, f, out_leavers)
 def load(start, count, numbers, turnovers, randoms):
     answer, lists = call("vougecress_load", start, count, numbers, turnovers, randoms)
     return refusal_of(answer) or answer.count, *lists
+
+
+def sheet(name, new, old, out):
+    answer, (read, after) = call("vougecress_sheet", name, new, old, out)
+    unchanged([read], [name])
+    return refusal_of(answer) or Change(answer.change, answer.rest), after
 
 
 # Job stream

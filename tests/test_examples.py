@@ -8,7 +8,7 @@ from pathlib import Path
 
 import commands
 import library
-from independent import chain, frame, load
+from independent import chain, frame, load, sheet
 
 TOP = Path(__file__).resolve().parent.parent
 NUMBERS, TURNOVERS = [11, 12, 13, 14, 15], [70_000_000, 10_000_000, 8_000_000, 7_000_000, 5_000_000]
@@ -104,3 +104,24 @@ def test_make_load(t):
     for words, status in ((("2147483648", "3"), 1), (("1", "0"), 1), (("1", "16385"), 1), (("1",), 2), (("-1", "3"), 2), (("x", "3"), 2)):
         done = subprocess.run([sys.executable, TOP / "examples" / "make_load.py", *words], capture_output=True, text=True)
         t.check((done.returncode, done.stdout, bool(done.stderr)) == (status, "", True), "a fault is said", (words, done))
+
+
+def test_make_sheet(t):
+    """The lines are the independent computation's, the last of the totals; README shows them; a fault ends with a message and a status."""
+    library.built()
+    example = [TOP / "examples" / "make_sheet.py"]
+    rows = [row.split(maxsplit=3) for row in (TOP / "examples" / "sheet.txt").read_bytes().splitlines()]
+    shares, new, old = ([int(row[k]) for row in rows] for k in range(3))
+    totals = [chain.total(shares, figures).total for figures in (new, old)]
+    lines = [*zip((row[3] for row in rows), new, old), (b"Total", *totals)]
+    wanted = b"".join(sheet.line(*row) for row in lines).decode()
+    done = subprocess.run([sys.executable, *example, TOP / "examples" / "sheet.txt"], capture_output=True, text=True)
+    t.check((done.returncode, done.stdout) == (0, wanted), "the sheet of several sectors and a total", done)
+    t.check(wanted in (TOP / "README.md").read_text(), "README.md shows the sheet", wanted)
+    faults = ((b"1000000 1000000000 1000000000 A name of 21 bytes...\n", 1), (b"999999 1000000000 1000000000 Sea\n", 1), (b"", 2), (b"1 2 x y\n", 2), (b"1 2 3\n", 2))
+    for text, status in faults:
+        with tempfile.NamedTemporaryFile() as file:
+            file.write(text)
+            file.flush()
+            done = subprocess.run([sys.executable, *example, file.name], capture_output=True, text=True)
+        t.check((done.returncode, done.stdout, bool(done.stderr)) == (status, "", True), "a fault is said", (text, done))

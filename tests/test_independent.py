@@ -13,6 +13,7 @@ import generate
 from independent import Refused
 from independent.chain import Direct, Figure, Record, Total, close, open_chain, quarter, total, within_bound
 from independent.frame import Drawn, Rotated, Taken, draw, rotate, same_leavers, take_all, take_all_entry
+from independent.sheet import sheet
 from independent.stream import COMMANDS, END, Job, read_command, run, step
 
 STREAM_REFUSALS = {1, 2, 3, 4, 5, 11, 12, 13, 15, 16, 17, 18, 19, 20, 21, 22, 23, 24}
@@ -65,6 +66,11 @@ def try_read(data):
     return command, rest == data["part"]
 
 
+def try_sheet(data):
+    answer, after = sheet(**data)
+    return answer, after == data["out"]
+
+
 def try_run(data):
     """The refusal in the last line, or all that was printed."""
     printed = run(data["stream"])
@@ -84,6 +90,7 @@ ENTRIES = {
     "close_cases": (try_close, {9, 13, 19, 21, 22, 23, 24}, 300, 20_000),
     "total_cases": (try_total, {14}, 300, 20_000),
     "reader_cases": (try_read, {15, 16, 17}, 300, 20_000),
+    "sheet_cases": (try_sheet, {32}, 300, 20_000),
     "stream_cases": (try_run, STREAM_REFUSALS, 20, 500),
 }
 
@@ -154,7 +161,7 @@ def widest(data, name):
 
 def test_numbers_fit_the_machine(t):
     for name, generator in generate.GENERATORS.items():
-        if name in ("stream_cases", "reader_cases", "many_draw_cases", "large_draw_cases"):
+        if name in ("stream_cases", "reader_cases", "many_draw_cases", "large_draw_cases", "sheet_cases"):
             continue
         for case in generator(t.seed, 20):
             for argument in case.data:

@@ -4,7 +4,7 @@ from collections import Counter
 
 import generate
 import library
-from independent import Refused, chain, frame, load, stream
+from independent import Refused, chain, frame, load, sheet, stream
 from independent.chain import Direct, Figure, Record, within_bound
 
 # Refusals that each entry has; each must be met many times.
@@ -17,6 +17,7 @@ REFUSALS = {
     "close_cases": {9, 13, 19, 21, 22, 23, 24},
     "total_cases": {14},
     "load_cases": {33},
+    "sheet_cases": {32},
 }
 
 
@@ -270,3 +271,17 @@ def test_loads_are_drawn(t):
         t.check(answer == frame.draw(*lists, z, first, [0] * z, [0] * z)[0], "a load is drawn", repeat=(start, count, z, first))
         if start == 12_345:
             t.check((panel, weights) == ([90, 307, 314], [4_969_607_296] * 3), "the worked draw")
+
+
+def test_sheet(t):
+    compared(t, "sheet_cases", 2_000, 100_000, lambda data: library.sheet(**data), lambda data: sheet.sheet(**data))
+
+
+def test_sheet_of_every_change(t):
+    """A figure and each of its neighbours at exact hundredths of a percent: c, the rest and the print."""
+    for old in (10**8, 10**9, 1_064_332_000, 10**10):
+        for c in (*range(-130, 131), -9_900, -9_899, -100, 9_999, 10_000, 990_000):
+            for new in {old + old * c // 10_000 + beside for beside in (-1, 0, 1)}:
+                if 10**8 <= new <= 10**10:
+                    out = bytes([7] * 50)
+                    t.check(library.sheet(b"x", new, old, out) == sheet.sheet(b"x", new, old, out), "a line", repeat=(new, old))

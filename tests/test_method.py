@@ -12,7 +12,7 @@ from pathlib import Path
 
 import generate
 import library
-from independent import Refused, chain, frame, load, stream
+from independent import Refused, chain, frame, load, sheet, stream
 
 TOP = Path(__file__).resolve().parent.parent
 TEXT = (TOP / "docs" / "METHOD.md").read_text()
@@ -271,6 +271,28 @@ class Stream(Example):
         self.same(library.run(self.octets, b"\0" * len(expected)), (0, len(expected), expected))
 
 
+class Sheet(Example):
+    """name, new, old and the bytes of the buffer; stated are c, the rest, and what stands in the figure's and the change's columns"""
+
+    def take(self, line):
+        word, _, rest = line.partition(" ")
+        if word == "name":
+            self.given["name"] = rest.encode()
+        else:
+            super().take(line)
+
+    def reckon(self):
+        name, new, old = self.given["name"], self.one("new"), self.one("old")
+        out = b"." * self.one("buffer")
+        answer, after = sheet.sheet(name, new, old, out)
+        self.same(library.sheet(name, new, old, out), (answer, after))
+        if isinstance(answer, Refused):
+            self.answers(answer)
+        else:
+            figure, change = (after[start : start + 14].decode().strip() for start in (20, 34))
+            self.answers(answer, c=answer.c, rest=answer.rest, figure=figure, change=change)
+
+
 KINDS = {
     "frame": Frame,
     "take-all": TakeAll,
@@ -279,6 +301,7 @@ KINDS = {
     "chain": Chain,
     "total": Total,
     "stream": Stream,
+    "sheet": Sheet,
 }
 
 
@@ -420,6 +443,7 @@ ENTRIES = {
     "total": (generate.total_cases, lambda data: chain.total(**data)),
     "read": (generate.reader_cases, lambda data: stream.read_command(data["part"])[0]),
     "load": (generate.load_cases, lambda data: load.load(**data)[0]),
+    "sheet": (generate.sheet_cases, lambda data: sheet.sheet(**data)[0]),
 }
 
 
@@ -511,6 +535,7 @@ WORDS = {
     21: [LIMIT["leastWeight"]],
     22: [LIMIT["mostWeight"]],
     23: INDEX,
+    32: [LIMIT["nameColumns"], LIMIT["lowestPrintable"], LIMIT["highestPrintable"], *INDEX, LIMIT["lineBytes"]],
     33: [LIMIT["stateRange"], 0, LIMIT["mostFrame"]],
 }
 
@@ -518,7 +543,7 @@ WORDS = {
 def test_refusals(t):
     """All numbers, each with the limits in its words, and with the entries that the orders name for it."""
     rows = table("### All refusals")
-    t.check([int(row[0]) for row in rows] == [*range(1, 25), 33], "METHOD.md: 1 to 24, and 33", [row[0] for row in rows])
+    t.check([int(row[0]) for row in rows] == [*range(1, 25), 32, 33], "METHOD.md: 1 to 24, 32 and 33", [row[0] for row in rows])
     orders = {entry: numbers_in(order) for entry, order in table("### Orders of the entries")}
     commands = [number for _, order in table("### Orders of the stream") for number in numbers_in(order)]
     for number, words, places in rows:
