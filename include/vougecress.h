@@ -62,6 +62,7 @@ enum vougecress_refusal {
     VOUGECRESS_REFUSED_FIGURE_RANGE = 23,    /* F outside 10^8 to 10^10 */
     VOUGECRESS_REFUSED_CLOSES_SPENT = 24,    /* forty closes accepted (quarter too) */
     VOUGECRESS_REFUSED_SAMPLE = 31,          /* the lists are unequal, empty or over 64, a strength is out of range, T is over 6,400 or the minima together exceed T */
+    VOUGECRESS_REFUSED_SHEET_LINE = 32,      /* a name is otherwise, a figure is outside 10^8 to 10^10 or the buffer is shorter than 49 bytes (a name is 1 to 20 printable ASCII bytes) */
     VOUGECRESS_REFUSED_TEST_LOAD = 33        /* the start is 2^31 or more, or the count is 0 or over 16,384, or a buffer is shorter */
     VOUGECRESS_REFUSED_TEST_LOAD = 33,       /* the start is 2^31 or more, or the count is 0 or over 16,384, or a buffer is shorter */
     VOUGECRESS_REFUSED_REGISTER_LINE = 34,   /* a line is not of this form */
@@ -93,6 +94,8 @@ enum vougecress_refusal {
 #define VOUGECRESS_HIGHEST_STRENGTH UINT64_C(1000000000)
 #define VOUGECRESS_MOST_INTERVIEWS 6400                      /* interviews of a sample */
 #define VOUGECRESS_MOST_FIELD 20                             /* digits of a field of a register's line */
+#define VOUGECRESS_NAME_COLUMNS 20                           /* bytes of a sector's name on the quarterly sheet */
+#define VOUGECRESS_LINE_BYTES 49                             /* bytes of a line of the sheet, its line feed among them */
 
 /* ---- Chain record ("Chain record")
  *
@@ -320,6 +323,23 @@ struct vougecress_register vougecress_import(const uint8_t *text, size_t text_co
 /* The same into a list of units. */
 struct vougecress_register vougecress_import_units(const uint8_t *text, size_t text_count,
                                                    struct vougecress_unit *list, size_t list_count);
+
+/* ---- Quarterly sheet (document 02, [12]) */
+
+struct vougecress_laid {
+    uint32_t refusal;
+    int64_t change; /* hundredths of a percent against the year before, floored */
+    uint64_t rest;  /* (figure - year_before) x 10,000 = change x year_before + rest, 0 <= rest < year_before */
+};
+
+/*
+ * Lays one line of the sheet into the first 49 bytes of `out`; bytes beyond stay, and no zero byte is added. A line is the
+ * sector's name, 20 columns, left; the figure in index points with seven decimals, 14 columns, right; the change with two
+ * decimals and a minus sign where it is negative, 14 columns, right; and a line feed. The figure of a total can be printed too.
+ * Refusal 32: a name that is not 1 to 20 bytes of 32 to 126, a figure outside 10^8 to 10^10, or `out` shorter than 49 bytes.
+ */
+struct vougecress_laid vougecress_sheet(const uint8_t *name, size_t name_count, uint64_t figure, uint64_t year_before,
+                                        uint8_t *out, size_t out_count);
 
 #ifdef __cplusplus
 }

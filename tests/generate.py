@@ -13,6 +13,7 @@ from cases.loads import load_cases
 from cases.streams import LISTING, many_draw_cases, reader_cases, stream_cases, word_cases
 from cases.samples import sample_cases
 from cases.registers import register_cases
+from cases.sheets import sheet_cases
 
 __all__ = [
     "GENERATORS",
@@ -34,6 +35,7 @@ __all__ = [
     "register_cases",
     "rotate_cases",
     "sample_cases",
+    "sheet_cases",
     "stream_cases",
     "take_all_cases",
     "total_cases",

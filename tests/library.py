@@ -7,7 +7,7 @@ so a place that the library wrote without leave shows.
 
 import ctypes
 import subprocess
-from ctypes import POINTER, Array, Structure, c_size_t, c_uint8, c_uint32, c_uint64
+from ctypes import POINTER, Array, Structure, c_int64, c_size_t, c_uint32, c_uint64, c_uint8
 from functools import cache
 from pathlib import Path
 
@@ -16,6 +16,7 @@ from independent.chain import Figure, Record, Total
 from independent.frame import Drawn, Rotated, Taken
 from independent.sample import Shared
 from independent.register import BadLine
+from independent.sheet import Change
 from independent.stream import END
 
 TOP = Path(__file__).resolve().parent.parent
@@ -39,6 +40,7 @@ WordAnswer = answer_type(("word", c_uint32))
 LoadAnswer = answer_type(("count", c_uint64))
 Places = c_uint64 * 64
 SampleAnswer = answer_type(("counts", Places), ("wholes", Places), ("remainders", Places))
+SheetAnswer = answer_type(("change", c_int64), ("rest", c_uint64))
 RunAnswer = answer_type(("length", c_uint64))
 RegisterAnswer = answer_type(("count", c_uint64), ("offset", c_uint64))
 
@@ -61,6 +63,7 @@ SIGNATURES = {
     "vougecress_sample": (SampleAnswer, (c_uint64, "u64s", "u64s")),
     "vougecress_import": (RegisterAnswer, ("octets", "u32s", "u64s", "u32s")),
     "vougecress_import_units": (RegisterAnswer, ("octets", "units")),
+    "vougecress_sheet": (SheetAnswer, ("octets", c_uint64, c_uint64, "octets")),
     "vougecress_read": (ReadAnswer, ("octets",)),
     "vougecress_word": (WordAnswer, ("octets",)),
     "vougecress_run": (RunAnswer, ("octets", "octets")),
@@ -231,6 +234,12 @@ def import_units(text, units):
     answer, (read, after) = call("vougecress_import_units", text, units)
     unchanged([read], [text])
     return imported(answer), [(unit.number, unit.turnover, unit.random) for unit in after]
+
+
+def sheet(name, new, old, out):
+    answer, (read, after) = call("vougecress_sheet", name, new, old, out)
+    unchanged([read], [name])
+    return refusal_of(answer) or Change(answer.change, answer.rest), after
 
 
 # Job stream

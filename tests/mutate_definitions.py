@@ -111,6 +111,7 @@ NEAREST = {
     "Load": ("load",),
     "Allocation": ("sample",),
     "Register": ("register",),
+    "Sheet": ("sheet",),
 }
 
 

@@ -10,7 +10,7 @@ import random
 import definitions
 from cases.samples import WORKED
 from definitions import number_list
-from independent import Refused, chain, frame, load, register, sample, stream
+from independent import Refused, chain, frame, load, register, sample, sheet, stream
 from cases import registers
 
 
@@ -144,6 +144,16 @@ def register_cases(text, *lists):
     yield f"imported {number_list(text)} (roomOf {' '.join(map(number_list, lists))})", register_answer(told)
     for name, value in zip(("importedNumbers", "importedTurnovers", "importedRandoms"), after):
         yield f"{name} {rest}", number_list(value)
+def whole(number):
+    """A signed whole number as the definitions write it."""
+    return f"(pos {number})" if number >= 0 else f"(negsuc {-number - 1})"
+
+
+def sheet_cases(name, new, old, room):
+    told, after = sheet.sheet(bytes(name), new, old, bytes(room))
+    rest = f"{number_list(name)} {new} {old} {number_list(room)}"
+    yield f"sheetAnswer {rest}", judged(told, lambda change: f"(record {{ hundredths = {whole(change.c)}; rest = {change.rest} }})")
+    yield f"sheetBytes {rest}", number_list(after)
 
 
 def output_cases(octets):
@@ -307,6 +317,23 @@ def register_suite(rng, count):
         for _ in range(rng.choice((0, 1, 1, 2))):
             text = registers.damaged(rng, text)
         yield from register_cases(text, *(list(range(40, 40 + max(0, lines + rng.choice((-1, 0, 0, 1))))) for _ in range(3)))
+SOME_FIGURES = (10**8, 10**8 + 7, 10**9 - 1, 10**9, 10**9 + 1, 1_064_332_000, 1_063_799_994, 10**10)
+
+
+def sheet_suite(rng, count):
+    """The worked lines, every border of 32 from both sides, the widest texts, then random lines."""
+    for new, old in ((999_999_999, 10**9), (1_063_799_994, 1_064_332_000), (100_000_007, 10**8), (10**10, 10**8), (10**8, 10**10), (10**9, 10**9)):
+        yield from sheet_cases(b"Road freight", new, old, [7] * 51)
+    for name in (b"", b"x", b" ", b"x" * 20, b"x" * 21, bytes([32, 126]), bytes([31, 65]), bytes([65, 127]), bytes([65, 255])):
+        yield from sheet_cases(name, 10**9, 999_000_000, [7] * 49)
+    for new, old in ((10**8 - 1, 10**9), (10**9, 10**8 - 1), (10**10 + 1, 10**9), (10**9, 10**10 + 1)):
+        yield from sheet_cases(b"Sea", new, old, [7] * 49)
+    for room in (0, 48, 49, 50):
+        yield from sheet_cases(b"Sea", 10**9, 10**9, [7] * room)
+    for _ in range(count):
+        new, old = (rng.choice([*SOME_FIGURES, rng.randint(10**8, 10**10)]) for _ in range(2))
+        name = [rng.randint(32, 126) for _ in range(rng.randint(1, 20))]
+        yield from sheet_cases(name, new, old, list(range(100, 149 + rng.randint(0, 2))))
 
 
 def encoded(command):
@@ -444,6 +471,7 @@ SUITES = {
     "word": lambda rng, times: word_suite(rng, 10 * times),
     "sample": lambda rng, times: sample_suite(rng, 25 * times),
     "register": lambda rng, times: register_suite(rng, 40 * times),
+    "sheet": lambda rng, times: sheet_suite(rng, 10 * times),
 }
 
 

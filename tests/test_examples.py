@@ -9,7 +9,7 @@ from pathlib import Path
 import commands
 import library
 from cases.samples import WORKED
-from independent import chain, frame, load, register, sample
+from independent import chain, frame, load, register, sample, sheet
 
 TOP = Path(__file__).resolve().parent.parent
 NUMBERS, TURNOVERS = [11, 12, 13, 14, 15], [70_000_000, 10_000_000, 8_000_000, 7_000_000, 5_000_000]
@@ -153,3 +153,22 @@ def test_draw_register(t):
             t.check(drawn(folder, "good.csv", text, *words)[0] == 2, "wrong use", words)
         done = subprocess.run([sys.executable, TOP / "examples" / "draw_register.py", "none.csv", "3", "0"], cwd=folder, capture_output=True, text=True)
         t.check((done.returncode, bool(done.stderr)) == (2, True), "no such file", done.stderr)
+def test_make_sheet(t):
+    """The lines are the independent computation's, the last of the totals; README shows them; a fault ends with a message and a status."""
+    library.built()
+    example = [TOP / "examples" / "make_sheet.py"]
+    rows = [row.split(maxsplit=3) for row in (TOP / "examples" / "sheet.txt").read_bytes().splitlines()]
+    shares, new, old = ([int(row[k]) for row in rows] for k in range(3))
+    totals = [chain.total(shares, figures).total for figures in (new, old)]
+    lines = [*zip((row[3] for row in rows), new, old), (b"Total", *totals)]
+    wanted = b"".join(sheet.line(*row) for row in lines).decode()
+    done = subprocess.run([sys.executable, *example, TOP / "examples" / "sheet.txt"], capture_output=True, text=True)
+    t.check((done.returncode, done.stdout) == (0, wanted), "the sheet of several sectors and a total", done)
+    t.check(wanted in (TOP / "README.md").read_text(), "README.md shows the sheet", wanted)
+    faults = ((b"1000000 1000000000 1000000000 A name of 21 bytes...\n", 1), (b"999999 1000000000 1000000000 Sea\n", 1), (b"", 2), (b"1 2 x y\n", 2), (b"1 2 3\n", 2))
+    for text, status in faults:
+        with tempfile.NamedTemporaryFile() as file:
+            file.write(text)
+            file.flush()
+            done = subprocess.run([sys.executable, *example, file.name], capture_output=True, text=True)
+        t.check((done.returncode, done.stdout, bool(done.stderr)) == (status, "", True), "a fault is said", (text, done))

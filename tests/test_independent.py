@@ -16,6 +16,7 @@ from independent.frame import Drawn, Rotated, Taken, draw, rotate, same_leavers,
 from independent.stream import COMMANDS, END, Job, front_word, read_command, run, step
 from independent.sample import share
 from independent.register import BadLine, import_lists, line_number, units_of
+from independent.sheet import sheet
 
 STREAM_REFUSALS = {1, 2, 3, 4, 5, 11, 12, 13, 15, 16, 17, 18, 19, 20, 21, 22, 23, 24}
 
@@ -71,6 +72,11 @@ def try_read(data):
     return command, rest == data["part"]
 
 
+def try_sheet(data):
+    answer, after = sheet(**data)
+    return answer, after == data["out"]
+
+
 def try_run(data):
     """The refusal in the last line, or all that was printed."""
     printed = run(data["stream"])
@@ -92,6 +98,7 @@ ENTRIES = {
     "sample_cases": (try_share, {31}, 300, 20_000),
     "reader_cases": (try_read, {15, 16, 17}, 300, 20_000),
     "word_cases": (lambda data: (front_word(data["part"]), None), {17}, 300, 20_000),
+    "sheet_cases": (try_sheet, {32}, 300, 20_000),
     "stream_cases": (try_run, STREAM_REFUSALS, 20, 500),
 }
 
@@ -162,7 +169,7 @@ def widest(data, name):
 
 def test_numbers_fit_the_machine(t):
     for name, generator in generate.GENERATORS.items():
-        if name in ("stream_cases", "reader_cases", "many_draw_cases", "large_draw_cases", "word_cases"):
+        if name in ("stream_cases", "reader_cases", "many_draw_cases", "large_draw_cases", "word_cases", "sheet_cases"):
             continue
         for case in generator(t.seed, 20):
             for argument in case.data:

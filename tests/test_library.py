@@ -5,7 +5,7 @@ from collections import Counter
 import generate
 import library
 from cases.samples import WORKED
-from independent import Refused, chain, frame, load, register, sample, stream
+from independent import Refused, chain, frame, load, register, sample, sheet, stream
 from independent.chain import Direct, Figure, Record, within_bound
 
 # Refusals that each entry has; each must be met many times.
@@ -21,6 +21,7 @@ REFUSALS = {
     "word_cases": {17},
     "sample_cases": {31},
     "register_cases": {34, 35},
+    "sheet_cases": {32},
 }
 
 
@@ -338,3 +339,15 @@ def test_long_register(t):
     room = [[5] * 10, [6] * 10, [7] * 10]
     t.check(library.import_lists(lines, *room) == (Refused(35), *room), "more lines than places")
     t.check(library.import_lists(lines + b"1,2,3\r", *room) == (register.BadLine(offset=len(lines)), *room), "the last line is bad")
+def test_sheet(t):
+    compared(t, "sheet_cases", 2_000, 100_000, lambda data: library.sheet(**data), lambda data: sheet.sheet(**data))
+
+
+def test_sheet_of_every_change(t):
+    """A figure and each of its neighbours at exact hundredths of a percent: c, the rest and the print."""
+    for old in (10**8, 10**9, 1_064_332_000, 10**10):
+        for c in (*range(-130, 131), -9_900, -9_899, -100, 9_999, 10_000, 990_000):
+            for new in {old + old * c // 10_000 + beside for beside in (-1, 0, 1)}:
+                if 10**8 <= new <= 10**10:
+                    out = bytes([7] * 50)
+                    t.check(library.sheet(b"x", new, old, out) == sheet.sheet(b"x", new, old, out), "a line", repeat=(new, old))

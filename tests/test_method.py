@@ -12,7 +12,7 @@ from pathlib import Path
 
 import generate
 import library
-from independent import Refused, chain, frame, load, register, sample, stream
+from independent import Refused, chain, frame, load, register, sample, sheet, stream
 
 TOP = Path(__file__).resolve().parent.parent
 TEXT = (TOP / "docs" / "METHOD.md").read_text()
@@ -304,6 +304,26 @@ class Word(Example):
         answer = stream.front_word(part)
         self.same(library.front_word(part), answer)
         self.answers(answer, **({} if isinstance(answer, Refused) else {"word": answer}))
+class Sheet(Example):
+    """name, new, old and the bytes of the buffer; stated are c, the rest, and what stands in the figure's and the change's columns"""
+
+    def take(self, line):
+        word, _, rest = line.partition(" ")
+        if word == "name":
+            self.given["name"] = rest.encode()
+        else:
+            super().take(line)
+
+    def reckon(self):
+        name, new, old = self.given["name"], self.one("new"), self.one("old")
+        out = b"." * self.one("buffer")
+        answer, after = sheet.sheet(name, new, old, out)
+        self.same(library.sheet(name, new, old, out), (answer, after))
+        if isinstance(answer, Refused):
+            self.answers(answer)
+        else:
+            figure, change = (after[start : start + 14].decode().strip() for start in (20, 34))
+            self.answers(answer, c=answer.c, rest=answer.rest, figure=figure, change=change)
 
 
 KINDS = {
@@ -316,6 +336,7 @@ KINDS = {
     "sample": Sample,
     "stream": Stream,
     "word": Word,
+    "sheet": Sheet,
 }
 
 
@@ -465,6 +486,7 @@ ENTRIES = {
     "word": (generate.word_cases, lambda data: stream.front_word(data["part"])),
     "sample": (generate.sample_cases, lambda data: sample.share(**data)),
     "import": (generate.register_cases, lambda data: number_of(register.import_lists(**data)[0])),
+    "sheet": (generate.sheet_cases, lambda data: sheet.sheet(**data)[0]),
 }
 
 
@@ -557,6 +579,7 @@ WORDS = {
     22: [LIMIT["mostWeight"]],
     23: INDEX,
     31: [LIMIT["mostSectors"], LIMIT["mostInterviews"]],
+    32: [LIMIT["nameColumns"], LIMIT["lowestPrintable"], LIMIT["highestPrintable"], *INDEX, LIMIT["lineBytes"]],
     33: [LIMIT["stateRange"], 0, LIMIT["mostFrame"]],
 }
 
@@ -564,7 +587,7 @@ WORDS = {
 def test_refusals(t):
     """All numbers, each with the limits in its words, and with the entries that the orders name for it."""
     rows = table("### All refusals")
-    t.check([int(row[0]) for row in rows] == [*range(1, 25), 31, 33, 34, 35], "METHOD.md: each number", [row[0] for row in rows])
+    t.check([int(row[0]) for row in rows] == [*range(1, 25), *range(31, 36)], "METHOD.md: each number", [row[0] for row in rows])
     orders = {entry: numbers_in(order) for entry, order in table("### Orders of the entries")}
     commands = [number for _, order in table("### Orders of the stream") for number in numbers_in(order)]
     for number, words, places in rows:

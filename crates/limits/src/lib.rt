@@ -86,6 +86,28 @@ pub const MOST_SHORT: u64 = 4_294_967_295;
 
 pub const MOST_LONG: u64 = 18_446_744_073_709_551_615;
 
+// ---- quarterly sheet
+// Columns of a name, and of a figure and a change.
+pub const NAME_COLUMNS: usize = 20;
+
+pub const NUMBER_COLUMNS: usize = 14;
+
+// Bytes of a line: its 48 columns and a line feed.
+pub const LINE_BYTES: usize = 49;
+
+// The printable bytes.
+pub const LOWEST_PRINTABLE: u8 = 32;
+
+pub const HIGHEST_PRINTABLE: u8 = 126;
+
+// Hundredths of a percent in 1.
+pub const CHANGE_SCALE: u64 = 10_000;
+
+// Decimals of a figure in index points, and of a change in percent.
+pub const FIGURE_DECIMALS: usize = 7;
+
+pub const CHANGE_DECIMALS: usize = 2;
+
 // The range of an index, which 12, 14, 19 and 23 share.
 pub fn bad_index(c: u64) -> bool
     ensures { λ r. ⌜ r ≡ badIndex c ⌝ }

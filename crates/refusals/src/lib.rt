@@ -31,6 +31,7 @@ pub enum Refusal {
     Sample,
     RegisterLine,
     RegisterRoom,
+    SheetLine,
 }
 
 // What a group of tests finds: the first refusal that applies, or none.
@@ -73,6 +74,7 @@ impl Refusal {
             Refusal::Sample => 31,
             Refusal::RegisterLine => 34,
             Refusal::RegisterRoom => 35,
+            Refusal::SheetLine => 32,
         }
     }
 }

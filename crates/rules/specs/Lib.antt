@@ -18,3 +18,4 @@ pub mod Load
 pub mod Word
 pub mod Allocation
 pub mod Register
+pub mod Sheet

@@ -128,3 +128,33 @@ mostShort = 4294967295
 
 abbrev pub mostLong : ℕ
 mostLong = 18446744073709551615
+
+-- ---- quarterly sheet (document 02, [12], refusal 32)
+-- columns of a name, and of a figure and a change
+abbrev pub nameColumns : ℕ
+nameColumns = 20
+
+abbrev pub numberColumns : ℕ
+numberColumns = 14
+
+-- bytes of a line: its 48 columns and a line feed
+abbrev pub lineBytes : ℕ
+lineBytes = 49
+
+-- the printable bytes
+abbrev pub lowestPrintable : ℕ
+lowestPrintable = 32
+
+abbrev pub highestPrintable : ℕ
+highestPrintable = 126
+
+-- hundredths of a percent in 1
+abbrev pub changeScale : ℕ
+changeScale = 10000
+
+-- decimals of a figure in index points, and of a change in percent
+abbrev pub figureDecimals : ℕ
+figureDecimals = 7
+
+abbrev pub changeDecimals : ℕ
+changeDecimals = 2
