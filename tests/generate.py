@@ -11,6 +11,7 @@ from cases.chains import chain_cases, close_cases, open_cases, quarter_cases, to
 from cases.frames import draw_cases, large_draw_cases, near_draw_cases, rotate_cases, take_all_cases
 from cases.loads import load_cases
 from cases.streams import LISTING, many_draw_cases, reader_cases, stream_cases
+from cases.writings import read_all_cases, write_cases
 
 __all__ = [
     "GENERATORS",
@@ -28,9 +29,11 @@ __all__ = [
     "near_draw_cases",
     "open_cases",
     "quarter_cases",
+    "read_all_cases",
     "reader_cases",
     "rotate_cases",
     "stream_cases",
     "take_all_cases",
     "total_cases",
+    "write_cases",
 ]

@@ -108,6 +108,7 @@ NEAREST = {
     "Decimal": ("stream",),
     "Job": ("stream",),
     "Load": ("load",),
+    "Writing": ("writing",),
 }
 
 

@@ -14,6 +14,7 @@ from independent import Refused
 from independent.chain import Direct, Figure, Record, Total, close, open_chain, quarter, total, within_bound
 from independent.frame import Drawn, Rotated, Taken, draw, rotate, same_leavers, take_all, take_all_entry
 from independent.stream import COMMANDS, END, Job, read_command, run, step
+from independent.writing import LISTS, read_all, write
 
 STREAM_REFUSALS = {1, 2, 3, 4, 5, 11, 12, 13, 15, 16, 17, 18, 19, 20, 21, 22, 23, 24}
 
@@ -74,6 +75,16 @@ def try_run(data):
     return printed, None
 
 
+def try_write(data):
+    answer, after = write(**data)
+    return answer, after == data["out"]
+
+
+def try_read_all(data):
+    answer, *lists = read_all(**data)
+    return answer, lists == [data[name] for name in LISTS]
+
+
 # generator -> (entry, the refusals it can meet, random cases in a short and a long run)
 ENTRIES = {
     "draw_cases": (try_draw, {1, 2, 3, 4, 5, 6}, 60, 3_000),
@@ -85,6 +96,8 @@ ENTRIES = {
     "total_cases": (try_total, {14}, 300, 20_000),
     "reader_cases": (try_read, {15, 16, 17}, 300, 20_000),
     "stream_cases": (try_run, STREAM_REFUSALS, 20, 500),
+    "write_cases": (try_write, {15, 16, 27}, 100, 5_000),
+    "read_all_cases": (try_read_all, {6, 15, 16, 17}, 60, 2_000),
 }
 
 
@@ -138,7 +151,7 @@ def test_generators_repeat(t):
         t.check([case.data for case in first] != [case.data for case in other], f"{name}: seeds differ")
 
 
-WIDE = {"turnovers", "out_weights", "W", "weights", "index", "indices", "count"}
+WIDE = {"turnovers", "out_weights", "W", "weights", "index", "indices", "count", "amounts"}
 WIDE_START = ("open_cases", "chain_cases", "load_cases")
 
 
@@ -147,7 +160,7 @@ def widest(data, name):
     value = data[name]
     if name == "calls":
         return max((p for _, relatives in value for p in relatives), default=0)
-    if isinstance(value, list):
+    if isinstance(value, (list, bytes)):
         return max(value, default=0)
     return value
 

@@ -4,7 +4,7 @@ from collections import Counter
 
 import generate
 import library
-from independent import Refused, chain, frame, load, stream
+from independent import Refused, chain, frame, load, stream, writing
 from independent.chain import Direct, Figure, Record, within_bound
 
 # Refusals that each entry has; each must be met many times.
@@ -17,6 +17,8 @@ REFUSALS = {
     "close_cases": {9, 13, 19, 21, 22, 23, 24},
     "total_cases": {14},
     "load_cases": {33},
+    "write_cases": {15, 16, 27},
+    "read_all_cases": {6, 15, 16, 17},
 }
 
 
@@ -270,3 +272,48 @@ def test_loads_are_drawn(t):
         t.check(answer == frame.draw(*lists, z, first, [0] * z, [0] * z)[0], "a load is drawn", repeat=(start, count, z, first))
         if start == 12_345:
             t.check((panel, weights) == ([90, 307, 314], [4_969_607_296] * 3), "the worked draw")
+
+
+def test_write(t):
+    compared(t, "write_cases", 300, 10_000, lambda data: library.write(**data), lambda data: writing.write(**data))
+
+
+def test_read_all(t):
+    compared(t, "read_all_cases", 60, 2_000, lambda data: library.read_all(**data), lambda data: writing.read_all(**data))
+
+
+def test_round_trips(t):
+    """Written and read: the commands given, absent operands 0. Read and written: the same bytes, and the bytes beyond stay."""
+    met = Counter()
+    for case in generate.write_cases(t.seed + 1, t.count(100, 3_000)):
+        length, out = library.write(**case.data)
+        if isinstance(length, Refused):
+            continue
+        met["written"] += 1
+        rows = zip(*(case.data[name] for name in writing.LISTS))
+        wanted = [writing.row_of(stream.read_command(writing.octets_of(row))[0]) for row in rows]
+        count, *lists = library.read_all(out[:length], *([7] * (len(wanted) + 1) for _ in writing.LISTS))
+        read = [list(row) for row in zip(*(column[:count] for column in lists))]
+        t.check(read == wanted and all(column[count:] == [7] for column in lists), "written and read", repeat=case)
+    for case in generate.stream_cases(t.seed, t.count(20, 500)):
+        octets = case.data["stream"]
+        room = len(octets)
+        count, *lists = library.read_all(octets, *([0] * room for _ in writing.LISTS))
+        if isinstance(count, Refused):
+            continue
+        met["read"] += 1
+        again = library.write(*(column[:count] for column in lists), bytes([170]) * (room + 3))
+        t.check(again == (room, octets + bytes([170]) * 3), "read and written", repeat=case)
+    t.check(min(met["written"], met["read"]) > 50, "many were written and read", repeat=dict(met))
+
+
+def test_written_listing(t):
+    """The listing's 156 bytes from its commands; nothing lent at all is an empty stream."""
+    count, *lists = writing.read_all(generate.LISTING, *([0] * 20 for _ in writing.LISTS))
+    given = [column[:count] for column in lists]
+    t.check(library.write(*given, bytes(156)) == (156, generate.LISTING), "the listing's bytes")
+    t.check(library.write(*given, bytes(155)) == (Refused(27), bytes(155)), "one byte too few")
+    written = library.built().vougecress_write(*[None, 0] * 7)
+    t.check((written.refusal, written.length) == (0, 0), "nothing is written as nothing")
+    listed = library.built().vougecress_read_all(*[None, 0] * 7)
+    t.check((listed.refusal, listed.count) == (0, 0), "nothing is read as nothing")

@@ -12,7 +12,7 @@ from pathlib import Path
 
 import generate
 import library
-from independent import Refused, chain, frame, load, stream
+from independent import Refused, chain, frame, load, stream, writing
 
 TOP = Path(__file__).resolve().parent.parent
 TEXT = (TOP / "docs" / "METHOD.md").read_text()
@@ -420,6 +420,8 @@ ENTRIES = {
     "total": (generate.total_cases, lambda data: chain.total(**data)),
     "read": (generate.reader_cases, lambda data: stream.read_command(data["part"])[0]),
     "load": (generate.load_cases, lambda data: load.load(**data)[0]),
+    "write": (generate.write_cases, lambda data: writing.write(**data)[0]),
+    "read-all": (generate.read_all_cases, lambda data: writing.read_all(**data)[0]),
 }
 
 
@@ -440,7 +442,7 @@ def test_orders_of_the_entries(t):
                 pairs.add((case.intends, int(also[1])))
         order = stated.get(entry, [])
         t.check(met == set(order), f"METHOD.md: the refusals of {entry} are {sorted(met)}", order)
-        if entry != "read":  # its cases have one fault each: a part can hardly have two
+        if entry not in ("read", "read-all"):  # one fault each: a part can hardly have two, and in a stream the first command that has one decides
             wrong = sorted(pairs ^ set(combinations(order, 2)))
             t.check(not wrong, f"METHOD.md: of any two refusals of {entry} the first is answered", wrong)
 
@@ -518,7 +520,7 @@ WORDS = {
 def test_refusals(t):
     """All numbers, each with the limits in its words, and with the entries that the orders name for it."""
     rows = table("### All refusals")
-    t.check([int(row[0]) for row in rows] == [*range(1, 25), 33], "METHOD.md: 1 to 24, and 33", [row[0] for row in rows])
+    t.check([int(row[0]) for row in rows] == [*range(1, 25), 27, 33], "METHOD.md: 1 to 24, 27 and 33", [row[0] for row in rows])
     orders = {entry: numbers_in(order) for entry, order in table("### Orders of the entries")}
     commands = [number for _, order in table("### Orders of the stream") for number in numbers_in(order)]
     for number, words, places in rows:

@@ -1,7 +1,7 @@
 -- Document 01, "Refusals caused by the input" and "… by the state": the number of each case.
 use Prim.Native.Nat.{ℕ}
 use Rattle.refusals.specs.declared.Refusal.{Refusal}
-use Rattle.refusals.specs.declared.Refusal.the-variants.{FrameLists, UnitNumbers, Turnovers, RandomNumbers, PanelSize, ResultBuffer, OldPanel, NoStep, UnitLists, BaseWeights, Shares, StartIndex, Relatives, Sectors, StreamLength, UnknownCommand, CutShort, Place, State, FrameFull, LowWeight, WeightSum, FigureRange, ClosesSpent, TestLoad}
+use Rattle.refusals.specs.declared.Refusal.the-variants.{FrameLists, UnitNumbers, Turnovers, RandomNumbers, PanelSize, ResultBuffer, OldPanel, NoStep, UnitLists, BaseWeights, Shares, StartIndex, Relatives, Sectors, StreamLength, UnknownCommand, CutShort, Place, State, FrameFull, LowWeight, WeightSum, FigureRange, ClosesSpent, TestLoad, Writing}
 use Rattle.refusals.specs.declared.Verdict.{Verdict}
 use Rattle.refusals.specs.declared.Verdict.the-variants.{Accepted, Refused}
 
@@ -56,6 +56,8 @@ numberOf FigureRange = 23
 numberOf ClosesSpent = 24
 -- document 02, [13]: "the start is 2^31 or more, or the count is 0 or over 16,384, or a buffer is shorter"
 numberOf TestLoad = 33
+-- document 02, [4]: "lists given are unequal, or the buffer is shorter than the stream needs"
+numberOf Writing = 27
 
 -- 0 where no refusal applies
 abbrev pub verdictOf : Verdict → ℕ

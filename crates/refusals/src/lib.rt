@@ -28,6 +28,7 @@ pub enum Refusal {
     FigureRange,
     ClosesSpent,
     TestLoad,
+    Writing,
 }
 
 // What a group of tests finds: the first refusal that applies, or none.
@@ -67,6 +68,7 @@ impl Refusal {
             Refusal::FigureRange => 23,
             Refusal::ClosesSpent => 24,
             Refusal::TestLoad => 33,
+            Refusal::Writing => 27,
         }
     }
 }

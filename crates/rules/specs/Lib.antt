@@ -15,3 +15,4 @@ pub mod Decimal
 pub mod Lines
 pub mod Job
 pub mod Load
+pub mod Writing
