@@ -61,9 +61,9 @@ enum vougecress_refusal {
     VOUGECRESS_REFUSED_WEIGHT_SUM = 22,      /* sum of v over 10^14, at open or after close */
     VOUGECRESS_REFUSED_FIGURE_RANGE = 23,    /* F outside 10^8 to 10^10 */
     VOUGECRESS_REFUSED_CLOSES_SPENT = 24,    /* forty closes accepted (quarter too) */
+    VOUGECRESS_REFUSED_WRITING = 27,         /* lists given are unequal, or the buffer is shorter than the stream needs */
     VOUGECRESS_REFUSED_SAMPLE = 31,          /* the lists are unequal, empty or over 64, a strength is out of range, T is over 6,400 or the minima together exceed T */
     VOUGECRESS_REFUSED_SHEET_LINE = 32,      /* a name is otherwise, a figure is outside 10^8 to 10^10 or the buffer is shorter than 49 bytes (a name is 1 to 20 printable ASCII bytes) */
-    VOUGECRESS_REFUSED_TEST_LOAD = 33        /* the start is 2^31 or more, or the count is 0 or over 16,384, or a buffer is shorter */
     VOUGECRESS_REFUSED_TEST_LOAD = 33,       /* the start is 2^31 or more, or the count is 0 or over 16,384, or a buffer is shorter */
     VOUGECRESS_REFUSED_REGISTER_LINE = 34,   /* a line is not of this form */
     VOUGECRESS_REFUSED_REGISTER_ROOM = 35    /* there are more lines than the list holds */
@@ -340,6 +340,55 @@ struct vougecress_laid {
  */
 struct vougecress_laid vougecress_sheet(const uint8_t *name, size_t name_count, uint64_t figure, uint64_t year_before,
                                         uint8_t *out, size_t out_count);
+
+/* ---- Writer (document 02, [4])
+ *
+ * A list of commands is six lists side by side, one place a command, whose elements have exactly their operand's width:
+ *   kinds    the command byte: 1 unit, 2 draw, 3 share, 4 relative, 5 open, 6 quarter, 7 close
+ *   sizes    the size of a draw; the place of a share or a relative
+ *   shares   the share
+ *   numbers  the number of a unit; the start of a draw; the relative
+ *   randoms  the random number of a unit
+ *   amounts  the turnover of a unit; the start index of an open
+ * What a list holds for a command that has no such operand is not looked at when it is written, and 0 when it is read.
+ * A stream that was written is read as the same commands, and what was read is written as the same bytes.
+ */
+struct vougecress_written {
+    uint32_t refusal;
+    uint64_t length; /* bytes of the stream */
+};
+
+struct vougecress_listed {
+    uint32_t refusal;
+    uint64_t count; /* commands of the stream */
+};
+
+/*
+ * Writes the stream of a list of commands into the first `length` places of `out`; places beyond stay. A buffer of
+ * VOUGECRESS_MOST_STREAM places always suffices. No value is judged: that is done by who runs the stream.
+ * Refusals, in this order: 27 lists unequal; 15 a stream of over 32,768 bytes, an unknown command counted as one; 16 a
+ * command byte that is not 1 to 7; 27 a buffer shorter than the stream.
+ */
+struct vougecress_written vougecress_write(const uint8_t *kinds, size_t kinds_count,
+                                           const uint8_t *sizes, size_t sizes_count,
+                                           const uint16_t *shares, size_t shares_count,
+                                           const uint32_t *numbers, size_t numbers_count,
+                                           const uint32_t *randoms, size_t randoms_count,
+                                           const uint64_t *amounts, size_t amounts_count,
+                                           uint8_t *out, size_t out_count);
+
+/*
+ * Reads a whole stream into the first `count` places of the six lists; places beyond stay, and the lists need not be of one
+ * length. VOUGECRESS_MOST_STREAM places always suffice. Refusals: 15, 16 or 17, that of the first command that cannot be
+ * read; then 6, a list with fewer places than the stream has commands.
+ */
+struct vougecress_listed vougecress_read_all(const uint8_t *stream, size_t stream_count,
+                                             uint8_t *kinds, size_t kinds_count,
+                                             uint8_t *sizes, size_t sizes_count,
+                                             uint16_t *shares, size_t shares_count,
+                                             uint32_t *numbers, size_t numbers_count,
+                                             uint32_t *randoms, size_t randoms_count,
+                                             uint64_t *amounts, size_t amounts_count);
 
 #ifdef __cplusplus
 }

@@ -14,6 +14,7 @@ from cases.streams import LISTING, many_draw_cases, reader_cases, stream_cases, 
 from cases.samples import sample_cases
 from cases.registers import register_cases
 from cases.sheets import sheet_cases
+from cases.writings import read_all_cases, write_cases
 
 __all__ = [
     "GENERATORS",
@@ -31,6 +32,7 @@ __all__ = [
     "near_draw_cases",
     "open_cases",
     "quarter_cases",
+    "read_all_cases",
     "reader_cases",
     "register_cases",
     "rotate_cases",
@@ -40,4 +42,5 @@ __all__ = [
     "take_all_cases",
     "total_cases",
     "word_cases",
+    "write_cases",
 ]

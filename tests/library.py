@@ -7,7 +7,7 @@ so a place that the library wrote without leave shows.
 
 import ctypes
 import subprocess
-from ctypes import POINTER, Array, Structure, c_int64, c_size_t, c_uint32, c_uint64, c_uint8
+from ctypes import POINTER, Array, Structure, c_int64, c_size_t, c_uint16, c_uint32, c_uint64, c_uint8
 from functools import cache
 from pathlib import Path
 
@@ -49,6 +49,8 @@ class Unit(Structure):
     _fields_ = [("number", c_uint32), ("turnover", c_uint64), ("random", c_uint32)]
 
 
+WrittenAnswer = answer_type(("length", c_uint64))
+ListedAnswer = answer_type(("count", c_uint64))
 
 # name -> answer type and parameter types; a list is a pointer and a count
 SIGNATURES = {
@@ -68,8 +70,10 @@ SIGNATURES = {
     "vougecress_word": (WordAnswer, ("octets",)),
     "vougecress_run": (RunAnswer, ("octets", "octets")),
     "vougecress_run_length": (c_uint64, ("octets",)),
+    "vougecress_write": (WrittenAnswer, ("u8s", "u8s", "u16s", "u32s", "u32s", "u64s", "octets")),
+    "vougecress_read_all": (ListedAnswer, ("octets", "u8s", "u8s", "u16s", "u32s", "u32s", "u64s")),
 }
-ELEMENTS = {"u8s": c_uint8, "u32s": c_uint32, "u64s": c_uint64, "octets": c_uint8, "units": Unit}
+ELEMENTS = {"u8s": c_uint8, "u16s": c_uint16, "u32s": c_uint32, "u64s": c_uint64, "octets": c_uint8, "units": Unit}
 
 
 @cache
@@ -289,3 +293,18 @@ def run_length(stream):
     length, lists = call("vougecress_run_length", stream)
     unchanged(lists, [stream])
     return length
+
+
+def write(kinds, sizes, shares, numbers, randoms, amounts, out):
+    """The length, and the buffer afterwards."""
+    lists = (kinds, sizes, shares, numbers, randoms, amounts)
+    answer, (*read, after) = call("vougecress_write", *lists, out)
+    unchanged(read, lists)
+    return refusal_of(answer) or answer.length, after
+
+
+def read_all(stream, kinds, sizes, shares, numbers, randoms, amounts):
+    """The count of commands, and the six lists afterwards."""
+    answer, (read, *lists) = call("vougecress_read_all", stream, kinds, sizes, shares, numbers, randoms, amounts)
+    unchanged([read], [stream])
+    return refusal_of(answer) or answer.count, *lists

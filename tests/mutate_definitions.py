@@ -112,6 +112,7 @@ NEAREST = {
     "Allocation": ("sample",),
     "Register": ("register",),
     "Sheet": ("sheet",),
+    "Writing": ("writing",),
 }
 
 

@@ -10,7 +10,7 @@ import random
 import definitions
 from cases.samples import WORKED
 from definitions import number_list
-from independent import Refused, chain, frame, load, register, sample, sheet, stream
+from independent import Refused, chain, frame, load, register, sample, sheet, stream, writing
 from cases import registers
 
 
@@ -154,6 +154,30 @@ def sheet_cases(name, new, old, room):
     rest = f"{number_list(name)} {new} {old} {number_list(room)}"
     yield f"sheetAnswer {rest}", judged(told, lambda change: f"(record {{ hundredths = {whole(change.c)}; rest = {change.rest} }})")
     yield f"sheetBytes {rest}", number_list(after)
+def six_lists(lists):
+    return "(lists " + " ".join(map(number_list, lists)) + ")"
+
+
+def write_cases(lists, out):
+    told, after = writing.write(*lists, bytes(out))
+    rest = f"{six_lists(lists)} {number_list(out)}"
+    yield f"writeAnswer {rest}", judged(told, str)
+    yield f"writeBytes {rest}", number_list(after)
+
+
+def read_all_cases(octets, lists):
+    told, *after = writing.read_all(bytes(octets), *lists)
+    rest = f"{number_list(octets)} {six_lists(lists)}"
+    yield f"readAllAnswer {rest}", judged(told, str)
+    yield f"readAllLists {rest}", six_lists(after)
+
+
+def row_cases(row):
+    """A row of a known command says the command that its bytes are read as; the other operands count as 0."""
+    command, _ = stream.read_command(writing.octets_of(row))
+    text = "(row " + " ".join(map(str, row)) + ")"
+    yield f"commandIn {text}", command_text(command)
+    yield f"rowOf {command_text(command)}", "row " + " ".join(map(str, writing.row_of(command)))
 
 
 def output_cases(octets):
@@ -455,6 +479,46 @@ def order_suite(rng, times):
     yield "ordered (larger (10 ∷ 30 ∷ 20 ∷ 30 ∷ 25 ∷ 15 ∷ [])) (0 ∷ 1 ∷ 2 ∷ 3 ∷ [])", "(1 ∷ 3 ∷ 2 ∷ 0 ∷ [])"
 
 
+def six_columns(rng, kinds):
+    tops = (255, 65_535, 2**32 - 1, 2**32 - 1, 2**64 - 1)
+    return [list(kinds)] + [[rng.choice([0, 1, top, rng.randrange(top + 1)]) for _ in kinds] for top in tops]
+
+
+def room_for(kinds):
+    return sum(map(writing.length_of, kinds))
+
+
+def writing_suite(rng, count):
+    """The worked cases, 27 for each list, the order of the refusals, both sides of 32,768 bytes; then random ones, both ways."""
+    for kinds, room in (([], 0), ([], 2), ([9], 0), ([6], 3), ([7, 8], 2), ([0], 0), ([8], 1), ([1, 7], 18), ([1, 7], 17)):
+        yield from write_cases([kinds] + [[9] * len(kinds)] * 5, [170] * room)
+    for kind in range(0, 9):
+        row = [column[0] for column in six_columns(rng, [kind])]
+        yield from write_cases([[value] for value in row], [5] * 18)
+        if kind in writing.FIELDS:
+            yield from row_cases(row)
+    for place in range(6):
+        for change in (lambda column: column[:-1], lambda column: column + [1]):
+            lists = six_columns(rng, [5, 8])
+            lists[place] = change(lists[place])
+            yield from write_cases(lists, [])
+    for last, room, due in ([6] * 9, 32_768, 0), ([6] * 9, 32_767, 27), ([6] * 10, 0, 15), ([8] * 9, 0, 16), ([8] * 10, 0, 15):
+        kinds = [1] * 1_927 + last
+        yield f"writeRefusal {six_lists([kinds] + [[0] * len(kinds)] * 5)} (replicate {room} 0)", str(due)
+    yield from read_all_cases([8] * 32_769, [[]] * 6)
+    for octets in ([], [6], [8], [1, 2], [7, 0], [5, 1]):
+        yield from read_all_cases(octets, [[3] * 2] * 6)
+    for place in range(6):
+        yield from read_all_cases([6, 7], [[4] * (1 if place == at else 2) for at in range(6)])
+    for _ in range(count):
+        kinds = [rng.randint(1, 7) for _ in range(rng.randint(0, 4))]
+        lists, room = six_columns(rng, kinds), room_for(kinds)
+        yield from write_cases(lists, list(range(max(0, room + faulty(rng, rng.randint(0, 2), -1)))))
+        octets = list(writing.write(*lists, bytes(room))[1])
+        octets = faulty(rng, octets, octets[:-1], octets + [9])
+        yield from read_all_cases(octets, [[place] * max(0, len(kinds) + faulty(rng, rng.randint(0, 2), -1)) for place in range(6)])
+
+
 SUITES = {
     "limits": lambda rng, times: list(limit_suite()) + list(full_frame_cases()),
     "edges": lambda rng, times: edge_suite(),
@@ -472,6 +536,7 @@ SUITES = {
     "sample": lambda rng, times: sample_suite(rng, 25 * times),
     "register": lambda rng, times: register_suite(rng, 40 * times),
     "sheet": lambda rng, times: sheet_suite(rng, 10 * times),
+    "writing": lambda rng, times: writing_suite(rng, 25 * times),
 }
 
 

@@ -7,6 +7,7 @@ import tempfile
 from pathlib import Path
 
 import commands
+import generate
 import library
 from cases.samples import WORKED
 from independent import chain, frame, load, register, sample, sheet
@@ -91,6 +92,36 @@ def test_every_call_of_the_example_is_looked_at(t):
     calls = len(re.findall(r"\bvougecress_(?!version)\w+\(", text))
     looked_at = text.count("accepted(\"") + text.count("accepted(name") + text.count("uint32_t refusal = vougecress_")
     t.check(calls == looked_at, "a look for each call", (calls, looked_at))
+
+
+def test_write_stream(t):
+    """The library's writer makes the bytes of make_stream.py, the listing's 156 among them; read again they are its lines; faults are said."""
+    library.built()
+
+    def ran(*words):
+        done = subprocess.run([sys.executable, *words], cwd=TOP, capture_output=True)
+        return done.returncode, done.stdout, done.stderr.decode()
+
+    with tempfile.TemporaryDirectory() as folder:
+        for name in ("reference.txt", "year.txt"):
+            status, stream, said = ran("examples/write_stream.py", f"examples/{name}")
+            t.check((status, said) == (0, ""), f"{name} is written", said)
+            t.check(stream == ran("examples/make_stream.py", f"examples/{name}")[1], f"{name}: the bytes of make_stream.py", stream)
+            file = Path(folder) / "job.stream"
+            file.write_bytes(stream)
+            lines = ran("examples/write_stream.py", "--read", str(file))
+            again = Path(folder) / "again.txt"
+            again.write_bytes(lines[1])
+            t.check(ran("examples/write_stream.py", str(again)) == (0, stream, ""), f"{name}: read and written again", lines)
+            if name == "reference.txt":
+                t.check(stream == generate.LISTING and len(stream) == 156, "the listing's 156 bytes", stream)
+                t.check("".join(line + "\n" for line in lines[1].decode().splitlines()[-4:]) in (TOP / "README.md").read_text(), "README.md shows the end of it", lines)
+        bad = Path(folder) / "bad"
+        for octets, words, status in ((b"\x08", ("--read",), 1), (b"close\n" * 32_769, (), 1), (b"sell 3\n", (), 2)):
+            bad.write_bytes(octets)
+            answer = ran("examples/write_stream.py", *words, str(bad))
+            t.check((answer[0], answer[1], bool(answer[2])) == (status, b"", True), "a fault is said", answer)
+    t.check(ran("examples/write_stream.py")[0] == 2, "wrong use")
 
 
 def test_make_load(t):

@@ -17,6 +17,7 @@ from independent.stream import COMMANDS, END, Job, front_word, read_command, run
 from independent.sample import share
 from independent.register import BadLine, import_lists, line_number, units_of
 from independent.sheet import sheet
+from independent.writing import LISTS, read_all, write
 
 STREAM_REFUSALS = {1, 2, 3, 4, 5, 11, 12, 13, 15, 16, 17, 18, 19, 20, 21, 22, 23, 24}
 
@@ -86,6 +87,16 @@ def try_run(data):
     return printed, None
 
 
+def try_write(data):
+    answer, after = write(**data)
+    return answer, after == data["out"]
+
+
+def try_read_all(data):
+    answer, *lists = read_all(**data)
+    return answer, lists == [data[name] for name in LISTS]
+
+
 # generator -> (entry, the refusals it can meet, random cases in a short and a long run)
 ENTRIES = {
     "draw_cases": (try_draw, {1, 2, 3, 4, 5, 6}, 60, 3_000),
@@ -100,6 +111,8 @@ ENTRIES = {
     "word_cases": (lambda data: (front_word(data["part"]), None), {17}, 300, 20_000),
     "sheet_cases": (try_sheet, {32}, 300, 20_000),
     "stream_cases": (try_run, STREAM_REFUSALS, 20, 500),
+    "write_cases": (try_write, {15, 16, 27}, 100, 5_000),
+    "read_all_cases": (try_read_all, {6, 15, 16, 17}, 60, 2_000),
 }
 
 
@@ -153,7 +166,7 @@ def test_generators_repeat(t):
         t.check([case.data for case in first] != [case.data for case in other], f"{name}: seeds differ")
 
 
-WIDE = {"turnovers", "out_weights", "W", "weights", "index", "indices", "count", "interviews", "strengths", "minima"}
+WIDE = {"turnovers", "out_weights", "W", "weights", "index", "indices", "count", "interviews", "strengths", "minima", "amounts"}
 WIDE_START = ("open_cases", "chain_cases", "load_cases")
 
 

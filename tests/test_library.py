@@ -5,7 +5,7 @@ from collections import Counter
 import generate
 import library
 from cases.samples import WORKED
-from independent import Refused, chain, frame, load, register, sample, sheet, stream
+from independent import Refused, chain, frame, load, register, sample, sheet, stream, writing
 from independent.chain import Direct, Figure, Record, within_bound
 
 # Refusals that each entry has; each must be met many times.
@@ -22,6 +22,8 @@ REFUSALS = {
     "sample_cases": {31},
     "register_cases": {34, 35},
     "sheet_cases": {32},
+    "write_cases": {15, 16, 27},
+    "read_all_cases": {6, 15, 16, 17},
 }
 
 
@@ -351,3 +353,46 @@ def test_sheet_of_every_change(t):
                 if 10**8 <= new <= 10**10:
                     out = bytes([7] * 50)
                     t.check(library.sheet(b"x", new, old, out) == sheet.sheet(b"x", new, old, out), "a line", repeat=(new, old))
+def test_write(t):
+    compared(t, "write_cases", 300, 10_000, lambda data: library.write(**data), lambda data: writing.write(**data))
+
+
+def test_read_all(t):
+    compared(t, "read_all_cases", 60, 2_000, lambda data: library.read_all(**data), lambda data: writing.read_all(**data))
+
+
+def test_round_trips(t):
+    """Written and read: the commands given, absent operands 0. Read and written: the same bytes, and the bytes beyond stay."""
+    met = Counter()
+    for case in generate.write_cases(t.seed + 1, t.count(100, 3_000)):
+        length, out = library.write(**case.data)
+        if isinstance(length, Refused):
+            continue
+        met["written"] += 1
+        rows = zip(*(case.data[name] for name in writing.LISTS))
+        wanted = [writing.row_of(stream.read_command(writing.octets_of(row))[0]) for row in rows]
+        count, *lists = library.read_all(out[:length], *([7] * (len(wanted) + 1) for _ in writing.LISTS))
+        read = [list(row) for row in zip(*(column[:count] for column in lists))]
+        t.check(read == wanted and all(column[count:] == [7] for column in lists), "written and read", repeat=case)
+    for case in generate.stream_cases(t.seed, t.count(20, 500)):
+        octets = case.data["stream"]
+        room = len(octets)
+        count, *lists = library.read_all(octets, *([0] * room for _ in writing.LISTS))
+        if isinstance(count, Refused):
+            continue
+        met["read"] += 1
+        again = library.write(*(column[:count] for column in lists), bytes([170]) * (room + 3))
+        t.check(again == (room, octets + bytes([170]) * 3), "read and written", repeat=case)
+    t.check(min(met["written"], met["read"]) > 50, "many were written and read", repeat=dict(met))
+
+
+def test_written_listing(t):
+    """The listing's 156 bytes from its commands; nothing lent at all is an empty stream."""
+    count, *lists = writing.read_all(generate.LISTING, *([0] * 20 for _ in writing.LISTS))
+    given = [column[:count] for column in lists]
+    t.check(library.write(*given, bytes(156)) == (156, generate.LISTING), "the listing's bytes")
+    t.check(library.write(*given, bytes(155)) == (Refused(27), bytes(155)), "one byte too few")
+    written = library.built().vougecress_write(*[None, 0] * 7)
+    t.check((written.refusal, written.length) == (0, 0), "nothing is written as nothing")
+    listed = library.built().vougecress_read_all(*[None, 0] * 7)
+    t.check((listed.refusal, listed.count) == (0, 0), "nothing is read as nothing")

@@ -12,7 +12,7 @@ from pathlib import Path
 
 import generate
 import library
-from independent import Refused, chain, frame, load, register, sample, sheet, stream
+from independent import Refused, chain, frame, load, register, sample, sheet, stream, writing
 
 TOP = Path(__file__).resolve().parent.parent
 TEXT = (TOP / "docs" / "METHOD.md").read_text()
@@ -487,6 +487,8 @@ ENTRIES = {
     "sample": (generate.sample_cases, lambda data: sample.share(**data)),
     "import": (generate.register_cases, lambda data: number_of(register.import_lists(**data)[0])),
     "sheet": (generate.sheet_cases, lambda data: sheet.sheet(**data)[0]),
+    "write": (generate.write_cases, lambda data: writing.write(**data)[0]),
+    "read-all": (generate.read_all_cases, lambda data: writing.read_all(**data)[0]),
 }
 
 
@@ -507,7 +509,7 @@ def test_orders_of_the_entries(t):
                 pairs.add((case.intends, int(also[1])))
         order = stated.get(entry, [])
         t.check(met == set(order), f"METHOD.md: the refusals of {entry} are {sorted(met)}", order)
-        if entry != "read":  # its cases have one fault each: a part can hardly have two
+        if entry not in ("read", "read-all"):  # one fault each: a part can hardly have two, and in a stream the first command that has one decides
             wrong = sorted(pairs ^ set(combinations(order, 2)))
             t.check(not wrong, f"METHOD.md: of any two refusals of {entry} the first is answered", wrong)
 
@@ -587,7 +589,7 @@ WORDS = {
 def test_refusals(t):
     """All numbers, each with the limits in its words, and with the entries that the orders name for it."""
     rows = table("### All refusals")
-    t.check([int(row[0]) for row in rows] == [*range(1, 25), *range(31, 36)], "METHOD.md: each number", [row[0] for row in rows])
+    t.check([int(row[0]) for row in rows] == [*range(1, 25), 27, *range(31, 36)], "METHOD.md: each number", [row[0] for row in rows])
     orders = {entry: numbers_in(order) for entry, order in table("### Orders of the entries")}
     commands = [number for _, order in table("### Orders of the stream") for number in numbers_in(order)]
     for number, words, places in rows:

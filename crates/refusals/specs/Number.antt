@@ -1,7 +1,7 @@
 -- Document 01, "Refusals caused by the input" and "… by the state": the number of each case.
 use Prim.Native.Nat.{ℕ}
 use Rattle.refusals.specs.declared.Refusal.{Refusal}
-use Rattle.refusals.specs.declared.Refusal.the-variants.{FrameLists, UnitNumbers, Turnovers, RandomNumbers, PanelSize, ResultBuffer, OldPanel, NoStep, UnitLists, BaseWeights, Shares, StartIndex, Relatives, Sectors, StreamLength, UnknownCommand, CutShort, Place, State, FrameFull, LowWeight, WeightSum, FigureRange, ClosesSpent, TestLoad, Sample, RegisterLine, RegisterRoom, SheetLine}
+use Rattle.refusals.specs.declared.Refusal.the-variants.{FrameLists, UnitNumbers, Turnovers, RandomNumbers, PanelSize, ResultBuffer, OldPanel, NoStep, UnitLists, BaseWeights, Shares, StartIndex, Relatives, Sectors, StreamLength, UnknownCommand, CutShort, Place, State, FrameFull, LowWeight, WeightSum, FigureRange, ClosesSpent, TestLoad, Sample, RegisterLine, RegisterRoom, SheetLine, Writing}
 use Rattle.refusals.specs.declared.Verdict.{Verdict}
 use Rattle.refusals.specs.declared.Verdict.the-variants.{Accepted, Refused}
 
@@ -64,6 +64,8 @@ numberOf RegisterLine = 34
 numberOf RegisterRoom = 35
 -- document 02, [12]: "a name is otherwise, a figure is outside 10^8 to 10^10 or the buffer is shorter than 49 bytes"
 numberOf SheetLine = 32
+-- document 02, [4]: "lists given are unequal, or the buffer is shorter than the stream needs"
+numberOf Writing = 27
 
 -- 0 where no refusal applies
 abbrev pub verdictOf : Verdict → ℕ

@@ -32,6 +32,7 @@ pub enum Refusal {
     RegisterLine,
     RegisterRoom,
     SheetLine,
+    Writing,
 }
 
 // What a group of tests finds: the first refusal that applies, or none.
@@ -75,6 +76,7 @@ impl Refusal {
             Refusal::RegisterLine => 34,
             Refusal::RegisterRoom => 35,
             Refusal::SheetLine => 32,
+            Refusal::Writing => 27,
         }
     }
 }

@@ -19,3 +19,4 @@ pub mod Word
 pub mod Allocation
 pub mod Register
 pub mod Sheet
+pub mod Writing

@@ -44,7 +44,7 @@ pub enum Reading {
 }
 
 // The bytes of a command, its command byte k among them.
-fn width(k: u8) -> usize
+pub fn width(k: u8) -> usize
     ensures { λ r. ⌜ r ≡ widthOf k ⌝ }
 {
     match k {
