@@ -1,7 +1,7 @@
 -- Document 01, "Chain record", refusals 9 to 13, 19, 21 to 24; 001, formulas 18 and 20.
 use Prim.Native.Nat.{ℕ, zero, suc, _-_, _*_, _/_}
 use mathlib.Core.Bool.{Bool, false, not}
-use mathlib.Core.List.{List, [], _∷_, _++_}
+use mathlib.Core.List.{List, _++_}
 use lib.ListN.{length, take, drop, replicate}
 use lib.Dec.{leb, ltb, eqb}
 use Rattle.rules.specs.Limits.{shareScale, relativeScale, lowestRelative, highestRelative, linkScale, leastWeight, mostWeight, lowestIndex, highestIndex, mostPanel, mostCloses}
@@ -172,8 +172,3 @@ accepted r (close ps) =
 -- the record after a call
 unfoldable pub after : Chain → Call → Chain
 after r call = stays (callRefusal r call) r (accepted r call)
-
--- the answers to a list of calls, each handed the record that the call before it left
-unfoldable pub answers : Chain → List Call → List (Judged ℕ)
-answers r [] = []
-answers r (call ∷ calls) = callAnswer r call ∷ answers (after r call) calls
