@@ -101,6 +101,7 @@ NEAREST = {
     "Order": ("order",),
     "Rotation": ("rotation",),
     "Chain": ("open", "call"),
+    "Events": ("events",),
     "Direct": ("direct",),
     "Total": ("total",),
     "Stream": ("reading",),

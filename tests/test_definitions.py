@@ -83,8 +83,27 @@ def direct_cases(W, g, a, start, closes, p):
         state = f"directAfter ({state}) (Call.close {number_list(q)})"
     state = f"(directAfter ({state}) (Call.quarter {number_list(p)}))"
     D = exact.D(p)
-    yield f"numerator {state} {number_list(p)} * {D.denominator}", f"{D.numerator} * denominator {state}"
+    yield f"numerator {state} {number_list(p)} * {D.denominator}", f"{D.numerator} * denominator {state} {number_list(p)}"
     yield f"{state} .m", str(exact.m)
+    yield f"allowed {state}", str(exact.allowed())
+
+
+def event_text(name, p, told):
+    """What a call came to: its refusal's number, or the call with its figure."""
+    if isinstance(told, Refused):
+        return f"Event.refused {told.number}"
+    return f"Event.answered (Call.{name} {number_list(p)}) {told.F}"
+
+
+def event_cases(W, g, a, start, calls):
+    """What a list of calls comes to after an open."""
+    record, came = chain.open_chain(W, g, a, start), []
+    for name, p in calls:
+        record, told = getattr(chain, name)(record, p)
+        came.append(event_text(name, p, told))
+    listed = " ∷ ".join([f"Call.{name} {number_list(p)}" for name, p in calls] + ["[]"])
+    opened = f"openRecord (shared {number_list(W)} {number_list(g)}) {number_list(a)} {start}"
+    yield f"events ({opened}) ({listed})", "(" + " ∷ ".join(came + ["[]"]) + ")"
 
 
 def total_cases(shares, indices):
@@ -271,6 +290,23 @@ def direct_suite(rng, count):
         g = [10_000] + [rng.choice([0, 1, 10_000]) for _ in range(units - 1)]
         a, p, *closes = [[rng.randrange(2_500, 40_001) if share else 0 for share in g] for _ in range(2 + rng.randint(0, 3))]
         yield from direct_cases(W, g, a, rng.randrange(10**8, 10**10 + 1), closes, p)
+
+
+def event_suite(rng, count):
+    """Short lists with calls that are refused among them: the calls after these are answered from the record before."""
+    for _ in range(count):
+        W = [rng.choice([10**6, 4 * 10**6, 10**9 + 7]) for _ in range(rng.randint(1, 3))]
+        g = [10_000] + [rng.choice([0, 10_000]) for _ in W[1:]]
+        a = [10_000 if share else 0 for share in g]
+        calls = []
+        for _ in range(rng.randint(0, 4)):
+            p = [rng.choice([9_999, 10_000, 12_345, 40_000]) if share else 0 for share in g]
+            calls.append((rng.choice(["quarter", "close"]), faulty(rng, p, p[:-1], [2_499] + p[1:], [2_500] + p[1:])))
+        yield from event_cases(W, g, a, rng.choice([10**8, 10**9, 4 * 10**9]), calls)
+    one = ([10**8], [10_000], [10_000], 10**9)
+    forty = [("close", [10_000])] * 40
+    for calls in ([], [("quarter", [12_000])], forty + [("close", [10_000]), ("quarter", [10_000]), ("quarter", [2_499])]):
+        yield from event_cases(*one, calls)
 
 
 def total_suite(rng, count):
@@ -529,6 +565,7 @@ SUITES = {
     "open": lambda rng, times: open_suite(rng, 90 * times),
     "call": lambda rng, times: call_suite(rng, 90 * times),
     "direct": lambda rng, times: direct_suite(rng, 15 * times),
+    "events": lambda rng, times: event_suite(rng, 25 * times),
     "total": lambda rng, times: total_suite(rng, 40 * times),
     "stream": lambda rng, times: stream_suite(rng, 60 * times),
     "load": lambda rng, times: load_suite(rng, 10 * times),

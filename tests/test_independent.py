@@ -413,7 +413,7 @@ def test_call_laws(t):
 
 
 def follow(t, case):
-    """Make the calls of a chain; hand back each answer, with D and m where there is a D."""
+    """Make the calls of a chain; hand back each answer, with D and the floors allowed where there is a D."""
     data = case.data
     opening = (data["W"], data["g"], data["a"], data["start"])
     record = open_chain(*opening)
@@ -426,7 +426,7 @@ def follow(t, case):
             t.check(record == before, "a refused call hands the record back", case)
             yield answer, None, None
             continue
-        yield answer, direct.D(p), direct.m
+        yield answer, direct.D(p), direct.allowed()
         if kind == "close":
             direct.closed(p)
             t.check(record.closes == direct.m - 1, "m counts the accepted closes", case)
@@ -435,15 +435,15 @@ def follow(t, case):
 def test_demand_3(t):
     refusals, steps, figures = set(), set(), 0
     for case in generate.chain_cases(t.seed, t.count(3_000, 40_000)):
-        for answer, D, m in follow(t, case):
+        for answer, D, allowed in follow(t, case):
             if D is None:
                 refusals.add(answer.number)
                 continue
-            t.check(within_bound(answer.F, D, m), f"F = {answer.F}, D = {D}, m = {m}", case)
-            steps.add(m)
+            t.check(within_bound(answer.F, D, allowed), f"F = {answer.F}, D = {D}, allowed = {allowed}", case)
+            steps.add(allowed)
             figures += 1
     t.check(refusals == {9, 13, 21, 22, 23, 24}, "the chains meet each refusal of a call", refusals)
-    t.check(steps == set(range(1, 41)), "figures at each count of closes", steps)
+    t.check(steps == set(range(2, 42)), "figures at each count of closes", steps)
     t.check(figures > 20_000, "many figures", figures)
 
 
@@ -458,14 +458,14 @@ def test_bound(t):
     _, answer = quarter(open_chain(*SHARP), SHARP_CALL)
     direct = Direct(*SHARP)
     D = direct.D(SHARP_CALL)
-    t.check(within_bound(answer.F, D, 1), "m + 1 covers both floors at the open", (answer, D))
-    t.check(not within_bound(answer.F, D, 0), "m alone does not", (answer, D))
+    t.check(within_bound(answer.F, D, direct.allowed()), "m + 1 covers both floors at the open", (answer, D))
+    t.check(not within_bound(answer.F, D, direct.m), "m alone does not", (answer, D))
     D = Fraction(10_000_000)
     for F in (D + 22, D - 22):
-        t.check(within_bound(F, D, 1), "at the bound", F)
+        t.check(within_bound(F, D, 2), "at the bound", F)
     for F in (D + 22 + Fraction(1, 10**9), D - 23):
-        t.check(not within_bound(F, D, 1), "beyond the bound", F)
-    t.check(not within_bound(1_063_593_000, 1_063_800_000, 2), "old weights kept fall out of the bound")
+        t.check(not within_bound(F, D, 2), "beyond the bound", F)
+    t.check(not within_bound(1_063_593_000, 1_063_800_000, 3), "old weights kept fall out of the bound")
 
 
 def test_direct(t):
@@ -479,7 +479,7 @@ def test_direct(t):
     opening = 1_000_100_000 + Fraction(10**9 * 3_333 * 2_500, 10**8)
     D = direct.D([10_000, 10_000, 0])
     t.check(D == 10**9 * sum(direct.e) / opening, "E stays the opening sum", D)
-    t.check(direct.m == 4, "m", direct.m)
+    t.check((direct.m, direct.allowed()) == (4, 5), "m and m + 1", (direct.m, direct.allowed()))
 
 
 def test_forty_closes(t):

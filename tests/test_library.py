@@ -214,7 +214,7 @@ def follow(t, case):
         t.check((told, ours) == (expected, theirs), f"chain: a {name} and the record after it", repeat=case)
         if isinstance(expected, Figure):
             figures += 1
-            t.check(within_bound(told.F, exact.D(p), exact.m), "chain: the figure is within the bound", repeat=case)
+            t.check(within_bound(told.F, exact.D(p), exact.allowed()), "chain: the figure is within the bound", repeat=case)
             if name == "close":
                 exact.closed(p)
     return figures, theirs.closes

@@ -216,11 +216,11 @@ class Chain(Example):
         """D, and the two sides of the bound."""
         if self.direct is None:
             return []
-        D, m = self.direct.D(p), self.direct.m
-        self.t.check(chain.within_bound(F, D, m), f"{self.where}: F is within the bound", (F, D, m))
+        D, m, allowed = self.direct.D(p), self.direct.m, self.direct.allowed()
+        self.t.check(chain.within_bound(F, D, allowed), f"{self.where}: F is within the bound", (F, D, m))
         if word == "close":
             self.direct.closed(p)
-        return facts_of(D=D, m=m, distance=10_000_000 * abs(F - D), bound=11 * (m + 1) * D)
+        return facts_of(D=D, m=m, distance=10_000_000 * abs(F - D), bound=11 * allowed * D)
 
 
 class Total(Example):

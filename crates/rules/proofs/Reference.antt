@@ -13,7 +13,7 @@ use Rattle.rules.specs.TakeAll.{Frame, Taken, frame, moreTurnover, large
 use Rattle.rules.specs.Draw.{Drawn, shifted, keyNumerator, keyDenominator, fractionBelow, keyBelow, sampledBy, drawnBy, panelNumbers, panelWeights, badLists, badRandom, frameRefusal, drawRefusal, drawAnswer, drawNumbers, drawWeights}
 use Rattle.rules.specs.Rotation.{Rotated, member, members, required, startAt, leaves, suffices, leastStep, leavers, badOldPanel, oldPanelRefusal, rotationRefusal, rotationAnswer, rotationLeavers}
 use Rattle.rules.specs.Chain.{Chain, Call, held, badIndex, badRelative, badWeight, badUnits, badOpenLists, badBase, badShares, openInputRefusal, weightRefusal, openRefusal, openRecord, link, figureAt, broken, callInputRefusal, figureRefusal, callRefusal, callAnswer}
-use Rattle.rules.specs.Direct.{Direct, directOpen, directAfter, numerator, denominator}
+use Rattle.rules.specs.Direct.{Direct, exactOpen, exactMoved, directOpen, directAfter, numerator, denominator}
 use Rattle.rules.specs.Total.{badSectors, totalOf, totalAnswer}
 use Rattle.rules.specs.Stream.{bigEndian, operandsOf, widthOf, commandOf, readingRefusal, reading, restOf}
 use Rattle.rules.specs.Decimal.{digitsOn, decimalOn}
@@ -113,8 +113,8 @@ pub record ReferenceTable : Type 0 where
   -- K7, K8: the C and the Q figure of the listing, whose output is exact
   k7-k8 : output streamA ≡ linesA
   -- "Here D is 1,063,800,000"; its denominator is not 0
-  k8-direct : numerator directA (10000 ∷ 10000 ∷ 10100 ∷ []) ≡ 1063800000 * denominator directA
-  k8-defined : ltb 0 (denominator directA) ≡ true
+  k8-direct : numerator directA (10000 ∷ 10000 ∷ 10100 ∷ []) ≡ 1063800000 * denominator directA (10000 ∷ 10000 ∷ 10100 ∷ [])
+  k8-defined : ltb 0 (denominator directA (10000 ∷ 10000 ∷ 10100 ∷ [])) ≡ true
   -- K9: z = 1, start 0: unit 1 (equal keys, lower number first)
   k9-answer : drawAnswer frameTied 1 0 buffer buffer ≡ drawn 1 30
   k9-numbers : drawNumbers frameTied 1 0 buffer buffer ≡ 1 ∷ 9 ∷ 9 ∷ 8 ∷ []
@@ -131,7 +131,7 @@ unfolding _or_ _and_ outside refuse _then_ sum products scaled anyOf anyPair ris
     shifted keyNumerator keyDenominator fractionBelow keyBelow sampledBy drawnBy panelNumbers panelWeights badLists badRandom frameRefusal drawRefusal drawAnswer drawNumbers drawWeights
     member members required startAt leaves suffices leastStep leavers badOldPanel oldPanelRefusal rotationRefusal rotationAnswer rotationLeavers
     held badIndex badRelative badWeight badUnits badOpenLists badBase badShares openInputRefusal weightRefusal openRefusal openRecord link figureAt broken callInputRefusal figureRefusal callRefusal callAnswer
-    directOpen numerator denominator badSectors totalOf totalAnswer
+    exactOpen exactMoved directOpen numerator denominator badSectors totalOf totalAnswer
     bigEndian operandsOf widthOf commandOf readingRefusal reading restOf digitsOn decimalOn lineOf lineOf2 panelLines
     emptyJob withUnit onUnit withPanel onDraw placeRefusal withShare onShare withRelative onRelative withChain onOpen step printed output
 reference-table =
