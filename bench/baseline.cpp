@@ -1,4 +1,4 @@
-// Document 01, "Frame and weights", "Draw" and "Rotation", in plain C++.
+// Document 01, "Frame and weights", "Draw" and "Rotation", and document 02, [14], in plain C++.
 #include "baseline.hpp"
 
 #include <algorithm>
@@ -167,4 +167,100 @@ Turn baseline::rotate(const Frame& f, size_t z, uint32_t start, const std::vecto
     }
     turn.refusal = 8;
     return turn;
+}
+
+// ---- document 02, [14]: registers as comma lines
+
+namespace {
+
+using Byte = unsigned char;
+
+bool is_digit(Byte c) {
+    return static_cast<unsigned>(c - '0') <= 9;
+}
+
+// A field of 1 to 20 digits that is at most `most`: the byte after it, or null. 19 digits cannot wrap, so only a twentieth is tested.
+const Byte* read_field(const Byte* p, const Byte* end, uint64_t most, uint64_t& value) {
+    const Byte* const from = p;
+    const Byte* const safe = end - p > 19 ? p + 19 : end;
+    uint64_t v = 0;
+    while (p < safe && is_digit(*p)) v = v * 10 + (*p++ - '0');
+    if (p == from) return nullptr;
+    if (p - from == 19 && p < end && is_digit(*p)) {
+        const unsigned digit = *p++ - '0';
+        if (v > (UINT64_MAX - digit) / 10) return nullptr;
+        v = v * 10 + digit;
+        if (p < end && is_digit(*p)) return nullptr;
+    }
+    if (v > most) return nullptr;
+    value = v;
+    return p;
+}
+
+struct Line {
+    uint64_t number, turnover, random;
+};
+
+// A line and its end: the byte after it, or null.
+const Byte* read_line(const Byte* p, const Byte* end, Line& line) {
+    p = read_field(p, end, UINT32_MAX, line.number);
+    if (p == nullptr || p == end || *p != ',') return nullptr;
+    p = read_field(p + 1, end, UINT64_MAX, line.turnover);
+    if (p == nullptr || p == end || *p != ',') return nullptr;
+    p = read_field(p + 1, end, UINT32_MAX, line.random);
+    if (p == nullptr || p == end) return p;
+    if (*p == '\n') return p + 1;
+    return *p == '\r' && end - p > 1 && p[1] == '\n' ? p + 2 : nullptr;
+}
+
+// Judges all lines, then stores each.
+template <class Store>
+void import_with(Import& result, const std::string& text, size_t places, Store store) {
+    const Byte* const from = reinterpret_cast<const Byte*>(text.data());
+    const Byte* const end = from + text.size();
+    Line line;
+    size_t lines = 0;
+    for (const Byte* p = from; p < end; lines++) {
+        const Byte* const next = read_line(p, end, line);
+        if (next == nullptr) {
+            result.refusal = 34;
+            result.offset = static_cast<uint64_t>(p - from);
+            return;
+        }
+        p = next;
+    }
+    if (lines > places) {
+        result.refusal = 35;
+        return;
+    }
+    const Byte* p = from;
+    for (size_t i = 0; i < lines; i++) {
+        p = read_line(p, end, line);
+        store(i, line);
+    }
+    result.count = lines;
+}
+
+}  // namespace
+
+Import baseline::import_lines(const std::string& text, size_t places) {
+    Import result;
+    result.lists.numbers.resize(places);
+    result.lists.turnovers.resize(places);
+    result.lists.randoms.resize(places);
+    import_with(result, text, places, [&](size_t i, const Line& line) {
+        result.lists.numbers[i] = static_cast<uint32_t>(line.number);
+        result.lists.turnovers[i] = line.turnover;
+        result.lists.randoms[i] = static_cast<uint32_t>(line.random);
+    });
+    return result;
+}
+
+Import baseline::import_units(const std::string& text, size_t places) {
+    Import result;
+    result.units.resize(places);
+    import_with(result, text, places, [&](size_t i, const Line& line) {
+        result.units[i] = {static_cast<uint32_t>(line.number), line.turnover, static_cast<uint32_t>(line.random)};
+    });
+    return result;
 }

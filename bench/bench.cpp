@@ -1,9 +1,10 @@
-// Times the proved draw and rotation against the C++ ones on the shapes of frames.hpp, by turns in one run, and compares the answers.
+// Times the proved draw, rotation and import against the C++ ones, by turns in one run, and compares the answers.
 // `bench check` runs document 01's cases K1 to K6 and K9 instead.
 #include <algorithm>
 #include <chrono>
 #include <cstdio>
 #include <cstring>
+#include <string>
 
 #include "baseline.hpp"
 #include "proved.hpp"
@@ -16,9 +17,12 @@ struct Engine {
     const char* name;
     Panel (*draw)(const Frame&, size_t, uint32_t);
     Turn (*rotate)(const Frame&, size_t, uint32_t, const std::vector<uint32_t>&, uint32_t);
+    Import (*import_lines)(const std::string&, size_t);
+    Import (*import_units)(const std::string&, size_t);
 };
 
-const Engine engines[2] = {{"c++", baseline::draw, baseline::rotate}, {"rattle", proved::draw, proved::rotate}};
+const Engine engines[2] = {{"c++", baseline::draw, baseline::rotate, baseline::import_lines, baseline::import_units},
+                           {"rattle", proved::draw, proved::rotate, proved::import_lines, proved::import_units}};
 
 // ---- what two implementations must agree on, as one number
 
@@ -38,6 +42,15 @@ uint64_t digest(Turn t) {
     std::sort(t.leavers.begin(), t.leavers.end());
     uint64_t sum = mixed(mixed(mixed(14695981039346656037u, t.refusal), t.step), t.start);
     for (uint32_t number : t.leavers) sum = mixed(sum, number);
+    return sum;
+}
+
+uint64_t digest(const Import& result) {
+    uint64_t sum = mixed(mixed(mixed(14695981039346656037u, result.refusal), result.count), result.offset);
+    for (uint32_t number : result.lists.numbers) sum = mixed(sum, number);
+    for (uint64_t turnover : result.lists.turnovers) sum = mixed(sum, turnover);
+    for (uint32_t random : result.lists.randoms) sum = mixed(sum, random);
+    for (const Unit& unit : result.units) sum = mixed(mixed(mixed(sum, unit.number), unit.turnover), unit.random);
     return sum;
 }
 
@@ -63,7 +76,7 @@ void once(Timing& timing, Call call) {
 
 // Both engines by turns on the same question, so that a busy machine slows both; one line with the ratio of the middle times.
 template <class Call>
-void compare(const char* what, Shape shape, uint32_t units, size_t z, int runs, Call call) {
+void compare(const std::string& what, int runs, Call call) {
     Timing timings[2];
     for (const Engine& engine : engines) call(engine);
     for (int k = 0; k < runs; k++)
@@ -71,9 +84,39 @@ void compare(const char* what, Shape shape, uint32_t units, size_t z, int runs, 
     for (Timing& timing : timings) std::sort(timing.times.begin(), timing.times.end());
     const bool same = timings[0].answer == timings[1].answer;
     if (!same) faults++;
-    std::printf("%-7s %-8s %6u units z = %3zu  %s %10.1f us  %s %10.1f us  ratio %.2f (fastest %.2f)  %s\n", what, name(shape), units, z,
-                engines[0].name, timings[0].middle(), engines[1].name, timings[1].middle(), timings[1].middle() / timings[0].middle(),
-                timings[1].fastest() / timings[0].fastest(), same ? "same answer" : "ANSWERS DIFFER");
+    std::printf("%s  %s %10.1f us  %s %10.1f us  ratio %.2f (fastest %.2f)  %s\n", what.c_str(), engines[0].name, timings[0].middle(), engines[1].name,
+                timings[1].middle(), timings[1].middle() / timings[0].middle(), timings[1].fastest() / timings[0].fastest(), same ? "same answer" : "ANSWERS DIFFER");
+}
+
+std::string row(const char* what, Shape shape, uint32_t units, size_t z) {
+    char text[80];
+    std::snprintf(text, sizeof text, "%-7s %-8s %6u units z = %3zu", what, name(shape), units, z);
+    return text;
+}
+
+// ---- registers
+
+// A frame as comma lines, every second one with a carriage return.
+std::string lines_of(const Frame& frame) {
+    std::string text;
+    for (size_t i = 0; i < frame.size(); i++) {
+        text += std::to_string(frame.numbers[i]) + ',' + std::to_string(frame.turnovers[i]) + ',' + std::to_string(frame.randoms[i]);
+        text += i % 2 == 0 ? "\n" : "\r\n";
+    }
+    return text;
+}
+
+// A whole frame; and 100 MB that are refused, for the lines or for the last one.
+void measure_import() {
+    constexpr size_t places = 16384;
+    const std::string whole = lines_of(make_frame(Shape::Skewed, places, 100, 20160018));
+    std::string large;
+    while (large.size() < 100000000) large += whole;
+    const std::string broken = large + "1,2,3\r";
+    compare("import  16,384 lines              ", 101, [&](const Engine& engine) { return engine.import_lines(whole, places); });
+    compare("import  16,384 lines into units   ", 101, [&](const Engine& engine) { return engine.import_units(whole, places); });
+    compare("import  100 MB, 35                ", 5, [&](const Engine& engine) { return engine.import_lines(large, places); });
+    compare("import  100 MB, 34 at the last one", 5, [&](const Engine& engine) { return engine.import_lines(broken, places); });
 }
 
 void measure() {
@@ -81,7 +124,7 @@ void measure() {
         for (size_t z : {40u, 100u})
             for (Shape shape : kShapes) {
                 const Frame frame = make_frame(shape, units, z, 20160018);
-                compare("draw", shape, units, z, 101, [&](const Engine& engine) { return engine.draw(frame, z, 123456); });
+                compare(row("draw", shape, units, z), 101, [&](const Engine& engine) { return engine.draw(frame, z, 123456); });
             }
     // Half of the members leave soon; all of a steady panel never do, and every one of the 1,000 starts is tried.
     constexpr size_t z = 100;
@@ -89,8 +132,9 @@ void measure() {
         const Frame frame = make_frame(shape, 16384, z, 20160018);
         const std::vector<uint32_t> old_panel = baseline::draw(frame, z, 0).numbers;
         const uint32_t fraction = shape == Shape::Steady ? 1000 : 500;
-        compare("rotate", shape, 16384, z, 3, [&](const Engine& engine) { return engine.rotate(frame, z, 0, old_panel, fraction); });
+        compare(row("rotate", shape, 16384, z), 3, [&](const Engine& engine) { return engine.rotate(frame, z, 0, old_panel, fraction); });
     }
+    measure_import();
 }
 
 // ---- document 01's reference cases

@@ -30,4 +30,29 @@ inline Turn rotate(const Frame& frame, size_t z, uint32_t start, const std::vect
     return t;
 }
 
+inline Import import_lines(const std::string& text, size_t places) {
+    Import result;
+    result.lists.numbers.resize(places);
+    result.lists.turnovers.resize(places);
+    result.lists.randoms.resize(places);
+    const vougecress_register answer = vougecress_import(reinterpret_cast<const uint8_t*>(text.data()), text.size(), result.lists.numbers.data(), places,
+                                                         result.lists.turnovers.data(), places, result.lists.randoms.data(), places);
+    result.refusal = static_cast<int>(answer.refusal);
+    result.count = answer.count;
+    result.offset = answer.offset;
+    return result;
+}
+
+inline Import import_units(const std::string& text, size_t places) {
+    static_assert(sizeof(Unit) == sizeof(vougecress_unit), "one layout");
+    Import result;
+    result.units.resize(places);
+    const vougecress_register answer = vougecress_import_units(reinterpret_cast<const uint8_t*>(text.data()), text.size(),
+                                                               reinterpret_cast<vougecress_unit*>(result.units.data()), places);
+    result.refusal = static_cast<int>(answer.refusal);
+    result.count = answer.count;
+    result.offset = answer.offset;
+    return result;
+}
+
 }  // namespace proved

@@ -3,7 +3,8 @@
  *
  * Lists are lent for the length of a call: a pointer and a count of elements. A call reads its input lists and writes only
  * what is said below. Every function takes any list and any number. It answers a result, with `refusal` 0, or one refusal
- * number of document 01, with every other field of the answer 0; after a refusal every lent list is as it was.
+ * number of document 01, with every other field of the answer 0 (34 alone comes with an offset); after a refusal every
+ * lent list is as it was.
  * A null pointer is allowed where the count is 0. Lists that are lent to be written may not overlap other lists of the call.
  * No call asks for memory of its own but on the stack, of which it takes up to 256 KB. Nothing is kept between calls, so that
  * threads may call at once, each with its own lists.
@@ -60,7 +61,12 @@ enum vougecress_refusal {
     VOUGECRESS_REFUSED_WEIGHT_SUM = 22,      /* sum of v over 10^13, at open or after close */
     VOUGECRESS_REFUSED_FIGURE_RANGE = 23,    /* F outside 10^8 to 10^10 */
     VOUGECRESS_REFUSED_CLOSES_SPENT = 24,    /* forty closes accepted (quarter too) */
-    VOUGECRESS_REFUSED_TEST_LOAD = 33        /* the start is 2^31 or more, or the count is 0 or over 16,384, or a buffer is shorter */
+    VOUGECRESS_REFUSED_WRITING = 27,         /* lists given are unequal, or the buffer is shorter than the stream needs */
+    VOUGECRESS_REFUSED_SAMPLE = 31,          /* the lists are unequal, empty or over 64, a strength is out of range, T is over 6,400 or the minima together exceed T */
+    VOUGECRESS_REFUSED_SHEET_LINE = 32,      /* a name is otherwise, a figure is outside 10^8 to 10^10 or the buffer is shorter than 49 bytes (a name is 1 to 20 printable ASCII bytes) */
+    VOUGECRESS_REFUSED_TEST_LOAD = 33,       /* the start is 2^31 or more, or the count is 0 or over 16,384, or a buffer is shorter */
+    VOUGECRESS_REFUSED_REGISTER_LINE = 34,   /* a line is not of this form */
+    VOUGECRESS_REFUSED_REGISTER_ROOM = 35    /* there are more lines than the list holds */
 };
 
 /* ---- Limits of document 01. A number beyond one is refused, never cut. */
@@ -79,11 +85,17 @@ enum vougecress_refusal {
 #define VOUGECRESS_HIGHEST_INDEX UINT64_C(10000000000)       /* to 1,000 */
 #define VOUGECRESS_INDEX_OF_100 UINT64_C(1000000000)
 #define VOUGECRESS_MOST_CLOSES 40                            /* closes of one chain */
-#define VOUGECRESS_MOST_SECTORS 64                           /* sectors of a total */
+#define VOUGECRESS_MOST_SECTORS 64                           /* sectors of a total, and of a sample; places of a sample's lists */
 #define VOUGECRESS_SECTOR_SCALE 1000000                      /* what the sector shares add to */
 #define VOUGECRESS_MOST_STREAM 32768                         /* bytes of a job stream */
 #define VOUGECRESS_MOST_HELD 1024                            /* units that a job stream holds */
 #define VOUGECRESS_STATE_RANGE UINT64_C(2147483648)          /* the start of a test load is below this */
+#define VOUGECRESS_LOWEST_STRENGTH 1                         /* the range of a sector's strength in a sample */
+#define VOUGECRESS_HIGHEST_STRENGTH UINT64_C(1000000000)
+#define VOUGECRESS_MOST_INTERVIEWS 6400                      /* interviews of a sample */
+#define VOUGECRESS_MOST_FIELD 20                             /* digits of a field of a register's line */
+#define VOUGECRESS_NAME_COLUMNS 20                           /* bytes of a sector's name on the quarterly sheet */
+#define VOUGECRESS_LINE_BYTES 49                             /* bytes of a line of the sheet, its line feed among them */
 
 /* ---- Chain record ("Chain record")
  *
@@ -242,6 +254,141 @@ struct vougecress_loaded vougecress_load(uint64_t start, size_t count,
                                          uint32_t *numbers, size_t numbers_count,
                                          uint64_t *turnovers, size_t turnovers_count,
                                          uint32_t *randoms, size_t randoms_count);
+
+/* ---- A word of a job stream (document 02, [3]) */
+
+struct vougecress_found {
+    uint32_t refusal;
+    uint32_t word;
+};
+
+/*
+ * The 32-bit word at the front of `part`, its first byte the highest; `part` may be of any length, and bytes beyond the fourth
+ * are not looked at. An operand of eight bytes is two such words, the upper first. Writes nothing.
+ * Refusal 17: fewer than four bytes are left, none among them.
+ */
+struct vougecress_found vougecress_word(const uint8_t *part, size_t part_count);
+
+/* ---- Sample over sectors (document 02, [10]) */
+
+/* A place for each sector, in the order in which they are handed in; places beyond the sectors are 0. */
+struct vougecress_allocation {
+    uint32_t refusal;
+    uint64_t counts[VOUGECRESS_MOST_SECTORS];     /* interviews; they add to T */
+    uint64_t wholes[VOUGECRESS_MOST_SECTORS];     /* the whole part of the quota; 0 for a sector that left */
+    uint64_t remainders[VOUGECRESS_MOST_SECTORS]; /* the remainder of its division, not reduced; 0 for a sector that left */
+};
+
+/*
+ * Shares T interviews over sectors, each with a strength (1 to 10^9) and a minimum. The quota of a sector is T' x strength
+ * over the strengths of the sectors left, where T' is T less what has been given. In a pass all sectors whose exact quota is
+ * below their minimum get the minimum and leave; the passes repeat until none leaves. The others get the whole part of
+ * their quota, and one more each by largest remainder, equal remainders by earlier sector, until all T are given. No sector
+ * gets less than its minimum. Nothing is written but the answer, which is handed back by value, 1,544 bytes.
+ * Refusal 31: lists unequal, empty or over 64, a strength out of range, T over 6,400, or minima that exceed T together.
+ */
+struct vougecress_allocation vougecress_sample(uint64_t interviews,
+                                               const uint64_t *strengths, size_t strengths_count,
+                                               const uint64_t *minima, size_t minima_count);
+
+/* ---- Registers as comma lines (document 02, [14]) */
+
+struct vougecress_register {
+    uint32_t refusal;
+    uint64_t count;  /* units filled */
+    uint64_t offset; /* with refusal 34, and with it alone: the byte, from 0, where the first bad line begins */
+};
+
+struct vougecress_unit {
+    uint32_t number;
+    uint64_t turnover;
+    uint32_t random;
+};
+
+/*
+ * Imports a register: a text of any length, of lines of three decimal fields, number, turnover and random number, separated
+ * by commas and ended by a line feed. One carriage return may stand directly before the line feed. The last line feed may be
+ * missing, then with no carriage return. A field has 1 to 20 digits, leading zeros among them, and nothing else; number and
+ * random number fit 32 bits, the turnover 64. A text of no bytes has no lines; an empty line is refused.
+ * Line i fills place i of the three lists, in the order of the text; places beyond the count stay. The lists hold as many
+ * units as the shortest has places. The draw judges its own, tighter limits.
+ * Refusal 34: a line is not of this form; `offset` says where the first such line begins. Refusal 35: more lines than places.
+ * All lines are judged before one is written: 34 is given wherever the bad line stands, and after both every list is as it was.
+ */
+struct vougecress_register vougecress_import(const uint8_t *text, size_t text_count,
+                                             uint32_t *numbers, size_t numbers_count,
+                                             uint64_t *turnovers, size_t turnovers_count,
+                                             uint32_t *randoms, size_t randoms_count);
+
+/* The same into a list of units. */
+struct vougecress_register vougecress_import_units(const uint8_t *text, size_t text_count,
+                                                   struct vougecress_unit *list, size_t list_count);
+
+/* ---- Quarterly sheet (document 02, [12]) */
+
+struct vougecress_laid {
+    uint32_t refusal;
+    int64_t change; /* hundredths of a percent against the year before, floored */
+    uint64_t rest;  /* (figure - year_before) x 10,000 = change x year_before + rest, 0 <= rest < year_before */
+};
+
+/*
+ * Lays one line of the sheet into the first 49 bytes of `out`; bytes beyond stay, and no zero byte is added. A line is the
+ * sector's name, 20 columns, left; the figure in index points with seven decimals, 14 columns, right; the change with two
+ * decimals and a minus sign where it is negative, 14 columns, right; and a line feed. The figure of a total can be printed too.
+ * Refusal 32: a name that is not 1 to 20 bytes of 32 to 126, a figure outside 10^8 to 10^10, or `out` shorter than 49 bytes.
+ */
+struct vougecress_laid vougecress_sheet(const uint8_t *name, size_t name_count, uint64_t figure, uint64_t year_before,
+                                        uint8_t *out, size_t out_count);
+
+/* ---- Writer (document 02, [4])
+ *
+ * A list of commands is six lists side by side, one place a command, whose elements have exactly their operand's width:
+ *   kinds    the command byte: 1 unit, 2 draw, 3 share, 4 relative, 5 open, 6 quarter, 7 close
+ *   sizes    the size of a draw; the place of a share or a relative
+ *   shares   the share
+ *   numbers  the number of a unit; the start of a draw; the relative
+ *   randoms  the random number of a unit
+ *   amounts  the turnover of a unit; the start index of an open
+ * What a list holds for a command that has no such operand is not looked at when it is written, and 0 when it is read.
+ * A stream that was written is read as the same commands, and what was read is written as the same bytes.
+ */
+struct vougecress_written {
+    uint32_t refusal;
+    uint64_t length; /* bytes of the stream */
+};
+
+struct vougecress_listed {
+    uint32_t refusal;
+    uint64_t count; /* commands of the stream */
+};
+
+/*
+ * Writes the stream of a list of commands into the first `length` places of `out`; places beyond stay. A buffer of
+ * VOUGECRESS_MOST_STREAM places always suffices. No value is judged: that is done by who runs the stream.
+ * Refusals, in this order: 27 lists unequal; 15 a stream of over 32,768 bytes, an unknown command counted as one; 16 a
+ * command byte that is not 1 to 7; 27 a buffer shorter than the stream.
+ */
+struct vougecress_written vougecress_write(const uint8_t *kinds, size_t kinds_count,
+                                           const uint8_t *sizes, size_t sizes_count,
+                                           const uint16_t *shares, size_t shares_count,
+                                           const uint32_t *numbers, size_t numbers_count,
+                                           const uint32_t *randoms, size_t randoms_count,
+                                           const uint64_t *amounts, size_t amounts_count,
+                                           uint8_t *out, size_t out_count);
+
+/*
+ * Reads a whole stream into the first `count` places of the six lists; places beyond stay, and the lists need not be of one
+ * length. VOUGECRESS_MOST_STREAM places always suffice. Refusals: 15, 16 or 17, that of the first command that cannot be
+ * read; then 6, a list with fewer places than the stream has commands.
+ */
+struct vougecress_listed vougecress_read_all(const uint8_t *stream, size_t stream_count,
+                                             uint8_t *kinds, size_t kinds_count,
+                                             uint8_t *sizes, size_t sizes_count,
+                                             uint16_t *shares, size_t shares_count,
+                                             uint32_t *numbers, size_t numbers_count,
+                                             uint32_t *randoms, size_t randoms_count,
+                                             uint64_t *amounts, size_t amounts_count);
 
 #ifdef __cplusplus
 }

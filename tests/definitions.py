@@ -53,6 +53,7 @@ def header(found):
         "use Prim.Native.Nat.{ℕ, zero, suc, _*_}",
         "use mathlib.Core.List.{List, [], _∷_, _++_}",
         "use lib.ListN.{replicate}",
+        "use lib.IntN.{ℤ, pos, negsuc}",
     ]
     for module, (names, _) in found.items():
         if module not in HIDDEN:

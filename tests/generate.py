@@ -10,7 +10,11 @@ from cases import GENERATORS, U32, U64, Case, again
 from cases.chains import chain_cases, close_cases, open_cases, quarter_cases, total_cases
 from cases.frames import draw_cases, large_draw_cases, near_draw_cases, rotate_cases, take_all_cases
 from cases.loads import load_cases
-from cases.streams import LISTING, many_draw_cases, reader_cases, stream_cases
+from cases.streams import LISTING, many_draw_cases, reader_cases, stream_cases, word_cases
+from cases.samples import sample_cases
+from cases.registers import register_cases
+from cases.sheets import sheet_cases
+from cases.writings import read_all_cases, write_cases
 
 __all__ = [
     "GENERATORS",
@@ -28,9 +32,15 @@ __all__ = [
     "near_draw_cases",
     "open_cases",
     "quarter_cases",
+    "read_all_cases",
     "reader_cases",
+    "register_cases",
     "rotate_cases",
+    "sample_cases",
+    "sheet_cases",
     "stream_cases",
     "take_all_cases",
     "total_cases",
+    "word_cases",
+    "write_cases",
 ]

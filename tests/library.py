@@ -7,13 +7,16 @@ so a place that the library wrote without leave shows.
 
 import ctypes
 import subprocess
-from ctypes import POINTER, Structure, c_size_t, c_uint8, c_uint32, c_uint64
+from ctypes import POINTER, Array, Structure, c_int64, c_size_t, c_uint16, c_uint32, c_uint64, c_uint8
 from functools import cache
 from pathlib import Path
 
 from independent import Refused
 from independent.chain import Figure, Record, Total
 from independent.frame import Drawn, Rotated, Taken
+from independent.sample import Shared
+from independent.register import BadLine
+from independent.sheet import Change
 from independent.stream import END
 
 TOP = Path(__file__).resolve().parent.parent
@@ -33,8 +36,21 @@ RotatedAnswer = answer_type(("k", c_uint32), ("start", c_uint32), ("count", c_ui
 ReadAnswer = answer_type(
     ("command", c_uint32), ("taken", c_uint64), ("first", c_uint64), ("second", c_uint64), ("third", c_uint64)
 )
+WordAnswer = answer_type(("word", c_uint32))
 LoadAnswer = answer_type(("count", c_uint64))
+Places = c_uint64 * 64
+SampleAnswer = answer_type(("counts", Places), ("wholes", Places), ("remainders", Places))
+SheetAnswer = answer_type(("change", c_int64), ("rest", c_uint64))
 RunAnswer = answer_type(("length", c_uint64))
+RegisterAnswer = answer_type(("count", c_uint64), ("offset", c_uint64))
+
+
+class Unit(Structure):
+    _fields_ = [("number", c_uint32), ("turnover", c_uint64), ("random", c_uint32)]
+
+
+WrittenAnswer = answer_type(("length", c_uint64))
+ListedAnswer = answer_type(("count", c_uint64))
 
 # name -> answer type and parameter types; a list is a pointer and a count
 SIGNATURES = {
@@ -46,14 +62,23 @@ SIGNATURES = {
     "vougecress_draw": (DrawnAnswer, ("u32s", "u64s", "u32s", c_size_t, c_uint32, "u32s", "u64s")),
     "vougecress_rotate": (RotatedAnswer, ("u32s", "u64s", "u32s", c_size_t, c_uint32, "u32s", c_uint32, "u32s")),
     "vougecress_load": (LoadAnswer, (c_uint64, c_size_t, "u32s", "u64s", "u32s")),
+    "vougecress_sample": (SampleAnswer, (c_uint64, "u64s", "u64s")),
+    "vougecress_import": (RegisterAnswer, ("octets", "u32s", "u64s", "u32s")),
+    "vougecress_import_units": (RegisterAnswer, ("octets", "units")),
+    "vougecress_sheet": (SheetAnswer, ("octets", c_uint64, c_uint64, "octets")),
     "vougecress_read": (ReadAnswer, ("octets",)),
+    "vougecress_word": (WordAnswer, ("octets",)),
     "vougecress_run": (RunAnswer, ("octets", "octets")),
     "vougecress_run_length": (c_uint64, ("octets",)),
+    "vougecress_write": (WrittenAnswer, ("u8s", "u8s", "u16s", "u32s", "u32s", "u64s", "octets")),
+    "vougecress_read_all": (ListedAnswer, ("octets", "u8s", "u8s", "u16s", "u32s", "u32s", "u64s")),
 }
-ELEMENTS = {"u8s": c_uint8, "u32s": c_uint32, "u64s": c_uint64, "octets": c_uint8}
+ELEMENTS = {"u8s": c_uint8, "u16s": c_uint16, "u32s": c_uint32, "u64s": c_uint64, "octets": c_uint8, "units": Unit}
 
 
 @cache
+
+
 def built():
     """The shared library, built by the README's command, with its functions declared."""
     subprocess.run([str(TOP / "build.sh")], check=True, capture_output=True)
@@ -93,12 +118,18 @@ def call(name, *arguments):
     return answer, [kind(array) for array, kind in lists]
 
 
+def value_of(answer, name):
+    """A field of an answer; an array as a list."""
+    value = getattr(answer, name)
+    return list(value) if isinstance(value, Array) else value
+
+
 def refusal_of(answer):
     """Refused, or None; after a refusal every other field is 0."""
     if answer.refusal == 0:
         return None
-    others = [getattr(answer, name) for name, _ in answer._fields_[1:]]
-    if any(others):
+    others = [value_of(answer, name) for name, _ in answer._fields_[1:]]
+    if any(any(value) if isinstance(value, list) else value for value in others):
         return ("a refusal with more than its number", answer.refusal, others)
     return Refused(answer.refusal)
 
@@ -182,6 +213,39 @@ def load(start, count, numbers, turnovers, randoms):
     return refusal_of(answer) or answer.count, *lists
 
 
+def share(interviews, strengths, minima):
+    answer, lists = call("vougecress_sample", interviews, strengths, minima)
+    unchanged(lists, (strengths, minima))
+    return refusal_of(answer) or Shared(*(value_of(answer, name) for name in ("counts", "wholes", "remainders")))
+# Registers
+
+
+def imported(answer):
+    """The count, `BadLine` with its offset, or Refused; only 34 has an offset."""
+    if answer.refusal == 34:
+        return BadLine(offset=answer.offset) if answer.count == 0 else ("34 with a count", answer.count)
+    return refusal_of(answer) or (answer.count if answer.offset == 0 else ("an offset without 34", answer.offset))
+
+
+def import_lists(text, numbers, turnovers, randoms):
+    answer, (read, *lists) = call("vougecress_import", text, numbers, turnovers, randoms)
+    unchanged([read], [text])
+    return imported(answer), *lists
+
+
+def import_units(text, units):
+    """Units are tuples of number, turnover and random number."""
+    answer, (read, after) = call("vougecress_import_units", text, units)
+    unchanged([read], [text])
+    return imported(answer), [(unit.number, unit.turnover, unit.random) for unit in after]
+
+
+def sheet(name, new, old, out):
+    answer, (read, after) = call("vougecress_sheet", name, new, old, out)
+    unchanged([read], [name])
+    return refusal_of(answer) or Change(answer.change, answer.rest), after
+
+
 # Job stream
 
 # Command of an answer -> its name and how many operands it has.
@@ -210,6 +274,13 @@ def read_command(part):
     return (name, *operands[:count]), part[answer.taken :]
 
 
+def front_word(part):
+    """The word at the front of a part."""
+    answer, lists = call("vougecress_word", part)
+    unchanged(lists, [part])
+    return refusal_of(answer) or answer.word
+
+
 def run(stream, out):
     """The refusal's number (0: none), the bytes of the text that was written, and the buffer afterwards."""
     answer, (read, after) = call("vougecress_run", stream, out)
@@ -222,3 +293,18 @@ def run_length(stream):
     length, lists = call("vougecress_run_length", stream)
     unchanged(lists, [stream])
     return length
+
+
+def write(kinds, sizes, shares, numbers, randoms, amounts, out):
+    """The length, and the buffer afterwards."""
+    lists = (kinds, sizes, shares, numbers, randoms, amounts)
+    answer, (*read, after) = call("vougecress_write", *lists, out)
+    unchanged(read, lists)
+    return refusal_of(answer) or answer.length, after
+
+
+def read_all(stream, kinds, sizes, shares, numbers, randoms, amounts):
+    """The count of commands, and the six lists afterwards."""
+    answer, (read, *lists) = call("vougecress_read_all", stream, kinds, sizes, shares, numbers, randoms, amounts)
+    unchanged([read], [stream])
+    return refusal_of(answer) or answer.count, *lists

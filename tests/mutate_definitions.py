@@ -101,13 +101,19 @@ NEAREST = {
     "Order": ("order",),
     "Rotation": ("rotation",),
     "Chain": ("open", "call"),
+    "Events": ("events",),
     "Direct": ("direct",),
     "Total": ("total",),
     "Stream": ("reading",),
+    "Word": ("word",),
     "Lines": ("stream",),
     "Decimal": ("stream",),
     "Job": ("stream",),
     "Load": ("load",),
+    "Allocation": ("sample",),
+    "Register": ("register",),
+    "Sheet": ("sheet",),
+    "Writing": ("writing",),
 }
 
 

@@ -8,8 +8,10 @@ definitions say (a rank is a count); the built code is tested at full size elsew
 import random
 
 import definitions
+from cases.samples import WORKED
 from definitions import number_list
-from independent import Refused, chain, frame, load, stream
+from independent import Refused, chain, frame, load, register, sample, sheet, stream, writing
+from cases import registers
 
 
 def judged(value, given):
@@ -81,8 +83,27 @@ def direct_cases(W, g, a, start, closes, p):
         state = f"directAfter ({state}) (Call.close {number_list(q)})"
     state = f"(directAfter ({state}) (Call.quarter {number_list(p)}))"
     D = exact.D(p)
-    yield f"numerator {state} {number_list(p)} * {D.denominator}", f"{D.numerator} * denominator {state}"
+    yield f"numerator {state} {number_list(p)} * {D.denominator}", f"{D.numerator} * denominator {state} {number_list(p)}"
     yield f"{state} .m", str(exact.m)
+    yield f"allowed {state}", str(exact.allowed())
+
+
+def event_text(name, p, told):
+    """What a call came to: its refusal's number, or the call with its figure."""
+    if isinstance(told, Refused):
+        return f"Event.refused {told.number}"
+    return f"Event.answered (Call.{name} {number_list(p)}) {told.F}"
+
+
+def event_cases(W, g, a, start, calls):
+    """What a list of calls comes to after an open."""
+    record, came = chain.open_chain(W, g, a, start), []
+    for name, p in calls:
+        record, told = getattr(chain, name)(record, p)
+        came.append(event_text(name, p, told))
+    listed = " ∷ ".join([f"Call.{name} {number_list(p)}" for name, p in calls] + ["[]"])
+    opened = f"openRecord (shared {number_list(W)} {number_list(g)}) {number_list(a)} {start}"
+    yield f"events ({opened}) ({listed})", "(" + " ∷ ".join(came + ["[]"]) + ")"
 
 
 def total_cases(shares, indices):
@@ -105,12 +126,77 @@ def reading_cases(part):
     yield f"restOf {number_list(part)}", number_list(rest)
 
 
+def word_cases(part):
+    yield f"wordOf {number_list(part)}", judged(stream.front_word(bytes(part)), str)
+
+
 def load_cases(start, count, *rooms):
     told, *after = load.load(start, count, *rooms)
     rest = f"{start} {count} " + " ".join(map(number_list, rooms))
     yield f"loadAnswer {rest}", judged(told, str)
     for name, value in zip(("loadNumbers", "loadTurnovers", "loadRandoms"), after):
         yield f"{name} {rest}", number_list(value)
+
+
+def places(values):
+    """A list of the sample's 64 places, short: its front and the zeros behind it."""
+    front = max((i + 1 for i, value in enumerate(values) if value), default=0)
+    return f"({number_list(values[:front])} ++ replicate {len(values) - front} 0)"
+
+
+def sample_cases(interviews, strengths, minima):
+    told = sample.share(interviews, strengths, minima)
+    rest = f"(sharing {interviews} {number_list(strengths)} {number_list(minima)})"
+    lists = sample.Shared(*([0] * 64,) * 3) if isinstance(told, Refused) else told
+    yield f"sampleRefusal {rest}", str(getattr(told, "number", 0))
+    for name, value in zip(("sampleCounts", "sampleWholes", "sampleRemainders"), lists):
+        yield f"{name} {rest}", places(value)
+def register_answer(told):
+    if isinstance(told, register.BadLine):
+        return f"Imported.badLine {told.offset}"
+    return "Imported.tooMany" if told == Refused(35) else f"Imported.units {told}"
+
+
+def register_cases(text, *lists):
+    told, *after = register.import_lists(text, *lists)
+    rest = f"{number_list(text)} " + " ".join(map(number_list, lists))
+    yield f"imported {number_list(text)} (roomOf {' '.join(map(number_list, lists))})", register_answer(told)
+    for name, value in zip(("importedNumbers", "importedTurnovers", "importedRandoms"), after):
+        yield f"{name} {rest}", number_list(value)
+def whole(number):
+    """A signed whole number as the definitions write it."""
+    return f"(pos {number})" if number >= 0 else f"(negsuc {-number - 1})"
+
+
+def sheet_cases(name, new, old, room):
+    told, after = sheet.sheet(bytes(name), new, old, bytes(room))
+    rest = f"{number_list(name)} {new} {old} {number_list(room)}"
+    yield f"sheetAnswer {rest}", judged(told, lambda change: f"(record {{ hundredths = {whole(change.c)}; rest = {change.rest} }})")
+    yield f"sheetBytes {rest}", number_list(after)
+def six_lists(lists):
+    return "(lists " + " ".join(map(number_list, lists)) + ")"
+
+
+def write_cases(lists, out):
+    told, after = writing.write(*lists, bytes(out))
+    rest = f"{six_lists(lists)} {number_list(out)}"
+    yield f"writeAnswer {rest}", judged(told, str)
+    yield f"writeBytes {rest}", number_list(after)
+
+
+def read_all_cases(octets, lists):
+    told, *after = writing.read_all(bytes(octets), *lists)
+    rest = f"{number_list(octets)} {six_lists(lists)}"
+    yield f"readAllAnswer {rest}", judged(told, str)
+    yield f"readAllLists {rest}", six_lists(after)
+
+
+def row_cases(row):
+    """A row of a known command says the command that its bytes are read as; the other operands count as 0."""
+    command, _ = stream.read_command(writing.octets_of(row))
+    text = "(row " + " ".join(map(str, row)) + ")"
+    yield f"commandIn {text}", command_text(command)
+    yield f"rowOf {command_text(command)}", "row " + " ".join(map(str, writing.row_of(command)))
 
 
 def output_cases(octets):
@@ -206,6 +292,23 @@ def direct_suite(rng, count):
         yield from direct_cases(W, g, a, rng.randrange(10**8, 10**10 + 1), closes, p)
 
 
+def event_suite(rng, count):
+    """Short lists with calls that are refused among them: the calls after these are answered from the record before."""
+    for _ in range(count):
+        W = [rng.choice([10**6, 4 * 10**6, 10**9 + 7]) for _ in range(rng.randint(1, 3))]
+        g = [10_000] + [rng.choice([0, 10_000]) for _ in W[1:]]
+        a = [100_000 if share else 0 for share in g]
+        calls = []
+        for _ in range(rng.randint(0, 4)):
+            p = [rng.choice([99_999, 100_000, 123_457, 400_000]) if share else 0 for share in g]
+            calls.append((rng.choice(["quarter", "close"]), faulty(rng, p, p[:-1], [24_999] + p[1:], [25_000] + p[1:])))
+        yield from event_cases(W, g, a, rng.choice([10**8, 10**9, 4 * 10**9]), calls)
+    one = ([10**8], [10_000], [100_000], 10**9)
+    forty = [("close", [100_000])] * 40
+    for calls in ([], [("quarter", [120_000])], forty + [("close", [100_000]), ("quarter", [100_000]), ("quarter", [24_999])]):
+        yield from event_cases(*one, calls)
+
+
 def total_suite(rng, count):
     for _ in range(count):
         sectors = rng.randint(1, 4)
@@ -215,6 +318,14 @@ def total_suite(rng, count):
         shares = faulty(rng, shares, shares[:-1], shares[:-1] + [shares[-1] + 1], [])
         indices = faulty(rng, indices, indices[:-1], [10**8 - 1] + indices[1:], [10**10 + 1] + indices[1:], [])
         yield from total_cases(shares, indices)
+
+
+def word_suite(rng, count):
+    """Every length from 0 to 9, and parts over 32,768 bytes, which a word takes."""
+    for length in (*range(10), 32_768, 32_769):
+        yield from word_cases([rng.randrange(256) for _ in range(length)])
+    for _ in range(count):
+        yield from word_cases([rng.randrange(256) for _ in range(rng.randint(2, 6))])
 
 
 def load_suite(rng, count):
@@ -230,6 +341,59 @@ def load_suite(rng, count):
     for _ in range(count):
         units = rng.randint(1, 4)
         yield from load_cases(rng.randrange(2**31), units, *(list(range(40, 40 + max(0, units + faulty(rng, rng.randint(0, 1), -1)))) for _ in range(3)))
+
+
+def sample_suite(rng, count):
+    for worked in WORKED.values():
+        yield from sample_cases(*worked)
+    for sectors in (64, 65):
+        yield f"sampleRefusal (sharing 100 {number_list([1] * sectors)} {number_list([1] * sectors)})", str(31 * (sectors > 64))
+    for interviews in (6_400, 6_401):
+        yield from sample_cases(interviews, [1, 2, 4], [0, 0, 3_657])
+    for strength in (0, 1, 10**9, 10**9 + 1):
+        yield from sample_cases(9, [1, strength], [4, 5])
+    for _ in range(count):
+        sectors = rng.randint(1, 4)
+        strengths = [rng.choice([1, 1, 2, 3, 5, 7, 10**9]) for _ in range(sectors)]
+        interviews = rng.choice([0, 1, 2, 3, 5, 10, 100])
+        minima = [min(interviews // sectors, rng.choice([0, 1, 2, 3, 25])) for _ in range(sectors)]
+        minima[0] += rng.choice([0, 0, interviews - sum(minima)])
+        strengths = faulty(rng, strengths, strengths[:-1], [0] + strengths[1:], [])
+        minima = faulty(rng, minima, minima[:-1], minima + [0], [interviews + 1 - sum(minima[1:])] + minima[1:], [])
+        yield from sample_cases(interviews, strengths, minima)
+def register_suite(rng, count):
+    """The worked texts, and random and damaged ones of a few lines."""
+    for text, places, _ in registers.WORKED:
+        yield from register_cases(text, [8] * places, [7] * places, [6] * (places + 1))
+    for rooms in ((1, 2, 2), (2, 1, 2), (2, 2, 1), (2, 3, 4), (4, 2, 3), (3, 4, 2)):
+        yield from register_cases(b"1,2,3\n4,5,6\n", *([9] * room for room in rooms))
+    yield "importNumber Imported.tooMany", "35"
+    yield "importNumber (Imported.badLine 5)", "34"
+    yield "importCount Imported.tooMany", "0"
+    yield "importCount (Imported.badLine 5)", "0"
+    for _ in range(count):
+        lines = rng.randint(0, 3)
+        text = registers.some_text(rng, lines)
+        for _ in range(rng.choice((0, 1, 1, 2))):
+            text = registers.damaged(rng, text)
+        yield from register_cases(text, *(list(range(40, 40 + max(0, lines + rng.choice((-1, 0, 0, 1))))) for _ in range(3)))
+SOME_FIGURES = (10**8, 10**8 + 7, 10**9 - 1, 10**9, 10**9 + 1, 1_064_332_000, 1_063_799_994, 10**10)
+
+
+def sheet_suite(rng, count):
+    """The worked lines, every border of 32 from both sides, the widest texts, then random lines."""
+    for new, old in ((999_999_999, 10**9), (1_063_799_994, 1_064_332_000), (100_000_007, 10**8), (10**10, 10**8), (10**8, 10**10), (10**9, 10**9)):
+        yield from sheet_cases(b"Road freight", new, old, [7] * 51)
+    for name in (b"", b"x", b" ", b"x" * 20, b"x" * 21, bytes([32, 126]), bytes([31, 65]), bytes([65, 127]), bytes([65, 255])):
+        yield from sheet_cases(name, 10**9, 999_000_000, [7] * 49)
+    for new, old in ((10**8 - 1, 10**9), (10**9, 10**8 - 1), (10**10 + 1, 10**9), (10**9, 10**10 + 1)):
+        yield from sheet_cases(b"Sea", new, old, [7] * 49)
+    for room in (0, 48, 49, 50):
+        yield from sheet_cases(b"Sea", 10**9, 10**9, [7] * room)
+    for _ in range(count):
+        new, old = (rng.choice([*SOME_FIGURES, rng.randint(10**8, 10**10)]) for _ in range(2))
+        name = [rng.randint(32, 126) for _ in range(rng.randint(1, 20))]
+        yield from sheet_cases(name, new, old, list(range(100, 149 + rng.randint(0, 2))))
 
 
 def encoded(command):
@@ -351,6 +515,46 @@ def order_suite(rng, times):
     yield "ordered (larger (10 ∷ 30 ∷ 20 ∷ 30 ∷ 25 ∷ 15 ∷ [])) (0 ∷ 1 ∷ 2 ∷ 3 ∷ [])", "(1 ∷ 3 ∷ 2 ∷ 0 ∷ [])"
 
 
+def six_columns(rng, kinds):
+    tops = (255, 65_535, 2**32 - 1, 2**32 - 1, 2**64 - 1)
+    return [list(kinds)] + [[rng.choice([0, 1, top, rng.randrange(top + 1)]) for _ in kinds] for top in tops]
+
+
+def room_for(kinds):
+    return sum(map(writing.length_of, kinds))
+
+
+def writing_suite(rng, count):
+    """The worked cases, 27 for each list, the order of the refusals, both sides of 32,768 bytes; then random ones, both ways."""
+    for kinds, room in (([], 0), ([], 2), ([9], 0), ([6], 3), ([7, 8], 2), ([0], 0), ([8], 1), ([1, 7], 18), ([1, 7], 17)):
+        yield from write_cases([kinds] + [[9] * len(kinds)] * 5, [170] * room)
+    for kind in range(0, 9):
+        row = [column[0] for column in six_columns(rng, [kind])]
+        yield from write_cases([[value] for value in row], [5] * 18)
+        if kind in writing.FIELDS:
+            yield from row_cases(row)
+    for place in range(6):
+        for change in (lambda column: column[:-1], lambda column: column + [1]):
+            lists = six_columns(rng, [5, 8])
+            lists[place] = change(lists[place])
+            yield from write_cases(lists, [])
+    for last, room, due in ([6] * 9, 32_768, 0), ([6] * 9, 32_767, 27), ([6] * 10, 0, 15), ([8] * 9, 0, 16), ([8] * 10, 0, 15):
+        kinds = [1] * 1_927 + last
+        yield f"writeRefusal {six_lists([kinds] + [[0] * len(kinds)] * 5)} (replicate {room} 0)", str(due)
+    yield from read_all_cases([8] * 32_769, [[]] * 6)
+    for octets in ([], [6], [8], [1, 2], [7, 0], [5, 1]):
+        yield from read_all_cases(octets, [[3] * 2] * 6)
+    for place in range(6):
+        yield from read_all_cases([6, 7], [[4] * (1 if place == at else 2) for at in range(6)])
+    for _ in range(count):
+        kinds = [rng.randint(1, 7) for _ in range(rng.randint(0, 4))]
+        lists, room = six_columns(rng, kinds), room_for(kinds)
+        yield from write_cases(lists, list(range(max(0, room + faulty(rng, rng.randint(0, 2), -1)))))
+        octets = list(writing.write(*lists, bytes(room))[1])
+        octets = faulty(rng, octets, octets[:-1], octets + [9])
+        yield from read_all_cases(octets, [[place] * max(0, len(kinds) + faulty(rng, rng.randint(0, 2), -1)) for place in range(6)])
+
+
 SUITES = {
     "limits": lambda rng, times: list(limit_suite()) + list(full_frame_cases()),
     "edges": lambda rng, times: edge_suite(),
@@ -361,9 +565,15 @@ SUITES = {
     "open": lambda rng, times: open_suite(rng, 90 * times),
     "call": lambda rng, times: call_suite(rng, 90 * times),
     "direct": lambda rng, times: direct_suite(rng, 15 * times),
+    "events": lambda rng, times: event_suite(rng, 25 * times),
     "total": lambda rng, times: total_suite(rng, 40 * times),
     "stream": lambda rng, times: stream_suite(rng, 60 * times),
     "load": lambda rng, times: load_suite(rng, 10 * times),
+    "word": lambda rng, times: word_suite(rng, 10 * times),
+    "sample": lambda rng, times: sample_suite(rng, 25 * times),
+    "register": lambda rng, times: register_suite(rng, 40 * times),
+    "sheet": lambda rng, times: sheet_suite(rng, 10 * times),
+    "writing": lambda rng, times: writing_suite(rng, 25 * times),
 }
 
 

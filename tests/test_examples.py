@@ -7,8 +7,10 @@ import tempfile
 from pathlib import Path
 
 import commands
+import generate
 import library
-from independent import chain, frame, load
+from cases.samples import WORKED
+from independent import chain, frame, load, register, sample, sheet
 
 TOP = Path(__file__).resolve().parent.parent
 NUMBERS, TURNOVERS = [11, 12, 13, 14, 15], [70_000_000, 10_000_000, 8_000_000, 7_000_000, 5_000_000]
@@ -74,14 +76,14 @@ def test_the_year_as_a_job(t):
 
 
 def test_the_mistake(t):
-    """10,200 twice gives the same figure twice, since both are measured against the opening."""
+    """102,000 twice gives the same figure twice, since both are measured against the opening."""
     commands.built()
     year = (TOP / "examples" / "year.txt").read_bytes()
-    status, printed, said = commands.run([TOP / "run.sh", "-"], text=year.replace(b" 10404\n", b" 10200\n"))
+    status, printed, said = commands.run([TOP / "run.sh", "-"], text=year.replace(b" 104040\n", b" 102000\n"))
     t.check((status, said) == (0, "") and printed.decode().split()[9:13] == ["Q", "1020000000"] * 2, "the same figure twice", printed)
     for file in ("README.md", "include/vougecress.h", "examples/make_stream.py", "tools/job.py"):
         text = " ".join((TOP / file).read_text().replace(",", "").split()).replace(" * ", " ")
-        t.check("quarter before" in text and "10404" in text and "same figure twice" in text, f"{file} says it", file)
+        t.check("quarter before" in text and "104040" in text and "same figure twice" in text, f"{file} says it", file)
 
 
 def test_every_call_of_the_example_is_looked_at(t):
@@ -90,6 +92,36 @@ def test_every_call_of_the_example_is_looked_at(t):
     calls = len(re.findall(r"\bvougecress_(?!version)\w+\(", text))
     looked_at = text.count("accepted(\"") + text.count("accepted(name") + text.count("uint32_t refusal = vougecress_")
     t.check(calls == looked_at, "a look for each call", (calls, looked_at))
+
+
+def test_write_stream(t):
+    """The library's writer makes the bytes of make_stream.py, the listing's 156 among them; read again they are its lines; faults are said."""
+    library.built()
+
+    def ran(*words):
+        done = subprocess.run([sys.executable, *words], cwd=TOP, capture_output=True)
+        return done.returncode, done.stdout, done.stderr.decode()
+
+    with tempfile.TemporaryDirectory() as folder:
+        for name in ("reference.txt", "year.txt"):
+            status, stream, said = ran("examples/write_stream.py", f"examples/{name}")
+            t.check((status, said) == (0, ""), f"{name} is written", said)
+            t.check(stream == ran("examples/make_stream.py", f"examples/{name}")[1], f"{name}: the bytes of make_stream.py", stream)
+            file = Path(folder) / "job.stream"
+            file.write_bytes(stream)
+            lines = ran("examples/write_stream.py", "--read", str(file))
+            again = Path(folder) / "again.txt"
+            again.write_bytes(lines[1])
+            t.check(ran("examples/write_stream.py", str(again)) == (0, stream, ""), f"{name}: read and written again", lines)
+            if name == "reference.txt":
+                t.check(stream == generate.LISTING and len(stream) == 156, "the listing's 156 bytes", stream)
+                t.check("".join(line + "\n" for line in lines[1].decode().splitlines()[-4:]) in (TOP / "README.md").read_text(), "README.md shows the end of it", lines)
+        bad = Path(folder) / "bad"
+        for octets, words, status in ((b"\x08", ("--read",), 1), (b"close\n" * 32_769, (), 1), (b"sell 3\n", (), 2)):
+            bad.write_bytes(octets)
+            answer = ran("examples/write_stream.py", *words, str(bad))
+            t.check((answer[0], answer[1], bool(answer[2])) == (status, b"", True), "a fault is said", answer)
+    t.check(ran("examples/write_stream.py")[0] == 2, "wrong use")
 
 
 def test_make_load(t):
@@ -104,3 +136,70 @@ def test_make_load(t):
     for words, status in ((("2147483648", "3"), 1), (("1", "0"), 1), (("1", "16385"), 1), (("1",), 2), (("-1", "3"), 2), (("x", "3"), 2)):
         done = subprocess.run([sys.executable, TOP / "examples" / "make_load.py", *words], capture_output=True, text=True)
         t.check((done.returncode, done.stdout, bool(done.stderr)) == (status, "", True), "a fault is said", (words, done))
+
+
+def test_share_sample(t):
+    """The lines are the independent computation's; README shows one; a fault ends with a message and a status."""
+    library.built()
+    for what, (interviews, strengths, minima) in WORKED.items():
+        words = [str(interviews), *(f"{strength},{minimum}" for strength, minimum in zip(strengths, minima))]
+        done = subprocess.run([sys.executable, TOP / "examples" / "share_sample.py", *words], capture_output=True, text=True)
+        told = sample.share(interviews, strengths, minima)
+        rows = zip(range(1, len(strengths) + 1), strengths, minima, told.counts, told.wholes, told.remainders)
+        wanted = "".join(",".join(map(str, row)) + "\n" for row in rows)
+        t.check((done.returncode, done.stdout) == (0, wanted), "a sample as comma lines", (what, done.stdout, done.stderr))
+        if what == "two passes":
+            text = (TOP / "README.md").read_text()
+            t.check(wanted in text and " ".join(words) in text, "README.md shows the sample", wanted)
+    for words, status in ((("10", "6,11"), 1), (("6401", "1,1"), 1), (("10",), 2), (("10", "6"), 2), (("-1", "6,1"), 2), (("10", "x,1"), 2)):
+        done = subprocess.run([sys.executable, TOP / "examples" / "share_sample.py", *words], capture_output=True, text=True)
+        t.check((done.returncode, done.stdout, bool(done.stderr)) == (status, "", True), "a fault is said", (words, done))
+def drawn(folder, name, text, *words):
+    """What examples/draw_register.py answers to a register."""
+    (folder / name).write_bytes(text)
+    done = subprocess.run([sys.executable, TOP / "examples" / "draw_register.py", name, *words], cwd=folder, capture_output=True, text=True)
+    return done.returncode, done.stdout, done.stderr
+
+
+def test_draw_register(t):
+    """File, import and draw; what each refusal looks like is what README shows."""
+    library.built()
+    readme = (TOP / "README.md").read_text()
+    text = (TOP / "examples" / "register.csv").read_bytes()
+    numbers, turnovers, randoms = map(list, zip(*register.units_of(text)))
+    answer, panel, weights = frame.draw(numbers, turnovers, randoms, 3, 0, [0] * 3, [0] * 3)
+    wanted = f"N {answer.n} {answer.X}\n" + "".join(f"P {unit} {weight}\n" for unit, weight in zip(panel, weights))
+    t.check(wanted in readme, "README.md shows the panel", wanted)
+    with tempfile.TemporaryDirectory() as folder:
+        folder = Path(folder)
+        t.check(drawn(folder, "good.csv", text, "3", "0") == (0, wanted, ""), "the panel of a register")
+        first, rest = text[:38], text[38:]
+        status, printed, said = drawn(folder, "broken.csv", first + b"number,turnover,random\n" + rest, "3", "0")
+        t.check((status, printed, said in readme) == (1, "", True), "34 with offset and line, as README shows it", said)
+        status, printed, said = drawn(folder, "long.csv", b"1,2,3\n" * 16_385, "3", "0")
+        t.check((status, printed) == (1, "") and "refusal 35: more than 16,384 lines" in said, "35", said)
+        status, printed, said = drawn(folder, "empty.csv", b"", "3", "0")
+        t.check((status, printed) == (1, "") and "refused by 1 " in said, "no units: the draw's own refusal", said)
+        for words in ((), ("3",), ("3", "x"), ("-1", "0")):
+            t.check(drawn(folder, "good.csv", text, *words)[0] == 2, "wrong use", words)
+        done = subprocess.run([sys.executable, TOP / "examples" / "draw_register.py", "none.csv", "3", "0"], cwd=folder, capture_output=True, text=True)
+        t.check((done.returncode, bool(done.stderr)) == (2, True), "no such file", done.stderr)
+def test_make_sheet(t):
+    """The lines are the independent computation's, the last of the totals; README shows them; a fault ends with a message and a status."""
+    library.built()
+    example = [TOP / "examples" / "make_sheet.py"]
+    rows = [row.split(maxsplit=3) for row in (TOP / "examples" / "sheet.txt").read_bytes().splitlines()]
+    shares, new, old = ([int(row[k]) for row in rows] for k in range(3))
+    totals = [chain.total(shares, figures).total for figures in (new, old)]
+    lines = [*zip((row[3] for row in rows), new, old), (b"Total", *totals)]
+    wanted = b"".join(sheet.line(*row) for row in lines).decode()
+    done = subprocess.run([sys.executable, *example, TOP / "examples" / "sheet.txt"], capture_output=True, text=True)
+    t.check((done.returncode, done.stdout) == (0, wanted), "the sheet of several sectors and a total", done)
+    t.check(wanted in (TOP / "README.md").read_text(), "README.md shows the sheet", wanted)
+    faults = ((b"1000000 1000000000 1000000000 A name of 21 bytes...\n", 1), (b"999999 1000000000 1000000000 Sea\n", 1), (b"", 2), (b"1 2 x y\n", 2), (b"1 2 3\n", 2))
+    for text, status in faults:
+        with tempfile.NamedTemporaryFile() as file:
+            file.write(text)
+            file.flush()
+            done = subprocess.run([sys.executable, *example, file.name], capture_output=True, text=True)
+        t.check((done.returncode, done.stdout, bool(done.stderr)) == (status, "", True), "a fault is said", (text, done))

@@ -13,7 +13,11 @@ import generate
 from independent import Refused
 from independent.chain import Direct, Figure, Record, Total, close, open_chain, quarter, total, within_bound
 from independent.frame import Drawn, Rotated, Taken, draw, rotate, same_leavers, take_all, take_all_entry
-from independent.stream import COMMANDS, END, Job, read_command, run, step
+from independent.stream import COMMANDS, END, Job, front_word, read_command, run, step
+from independent.sample import share
+from independent.register import BadLine, import_lists, line_number, units_of
+from independent.sheet import sheet
+from independent.writing import LISTS, read_all, write
 
 STREAM_REFUSALS = {1, 2, 3, 4, 5, 10, 11, 12, 13, 15, 16, 17, 18, 19, 20, 21, 22, 23, 24}
 
@@ -60,9 +64,18 @@ def try_total(data):
     return total(**data), None
 
 
+def try_share(data):
+    return share(**data), None
+
+
 def try_read(data):
     command, rest = read_command(data["part"])
     return command, rest == data["part"]
+
+
+def try_sheet(data):
+    answer, after = sheet(**data)
+    return answer, after == data["out"]
 
 
 def try_run(data):
@@ -74,6 +87,16 @@ def try_run(data):
     return printed, None
 
 
+def try_write(data):
+    answer, after = write(**data)
+    return answer, after == data["out"]
+
+
+def try_read_all(data):
+    answer, *lists = read_all(**data)
+    return answer, lists == [data[name] for name in LISTS]
+
+
 # generator -> (entry, the refusals it can meet, random cases in a short and a long run)
 ENTRIES = {
     "draw_cases": (try_draw, {1, 2, 3, 4, 5, 6}, 60, 3_000),
@@ -83,8 +106,13 @@ ENTRIES = {
     "quarter_cases": (try_quarter, {9, 13, 19, 23, 24}, 300, 20_000),
     "close_cases": (try_close, {9, 13, 19, 21, 22, 23, 24}, 300, 20_000),
     "total_cases": (try_total, {14}, 300, 20_000),
+    "sample_cases": (try_share, {31}, 300, 20_000),
     "reader_cases": (try_read, {15, 16, 17}, 300, 20_000),
+    "word_cases": (lambda data: (front_word(data["part"]), None), {17}, 300, 20_000),
+    "sheet_cases": (try_sheet, {32}, 300, 20_000),
     "stream_cases": (try_run, STREAM_REFUSALS, 20, 500),
+    "write_cases": (try_write, {15, 16, 27}, 100, 5_000),
+    "read_all_cases": (try_read_all, {6, 15, 16, 17}, 60, 2_000),
 }
 
 
@@ -138,7 +166,7 @@ def test_generators_repeat(t):
         t.check([case.data for case in first] != [case.data for case in other], f"{name}: seeds differ")
 
 
-WIDE = {"turnovers", "out_weights", "W", "weights", "index", "indices", "count"}
+WIDE = {"turnovers", "out_weights", "W", "weights", "index", "indices", "count", "interviews", "strengths", "minima", "amounts"}
 WIDE_START = ("open_cases", "chain_cases", "load_cases")
 
 
@@ -147,14 +175,14 @@ def widest(data, name):
     value = data[name]
     if name == "calls":
         return max((p for _, relatives in value for p in relatives), default=0)
-    if isinstance(value, list):
+    if isinstance(value, (list, bytes)):
         return max(value, default=0)
     return value
 
 
 def test_numbers_fit_the_machine(t):
     for name, generator in generate.GENERATORS.items():
-        if name in ("stream_cases", "reader_cases", "many_draw_cases", "large_draw_cases"):
+        if name in ("stream_cases", "reader_cases", "many_draw_cases", "large_draw_cases", "word_cases", "sheet_cases"):
             continue
         for case in generator(t.seed, 20):
             for argument in case.data:
@@ -385,7 +413,7 @@ def test_call_laws(t):
 
 
 def follow(t, case):
-    """Make the calls of a chain; hand back each answer, with D and m where there is a D."""
+    """Make the calls of a chain; hand back each answer, with D and the floors allowed where there is a D."""
     data = case.data
     opening = (data["W"], data["g"], data["a"], data["start"])
     record = open_chain(*opening)
@@ -398,7 +426,7 @@ def follow(t, case):
             t.check(record == before, "a refused call hands the record back", case)
             yield answer, None, None
             continue
-        yield answer, direct.D(p), direct.m
+        yield answer, direct.D(p), direct.allowed()
         if kind == "close":
             direct.closed(p)
             t.check(record.closes == direct.m - 1, "m counts the accepted closes", case)
@@ -407,15 +435,15 @@ def follow(t, case):
 def test_demand_3(t):
     refusals, steps, figures = set(), set(), 0
     for case in generate.chain_cases(t.seed, t.count(3_000, 40_000)):
-        for answer, D, m in follow(t, case):
+        for answer, D, allowed in follow(t, case):
             if D is None:
                 refusals.add(answer.number)
                 continue
-            t.check(within_bound(answer.F, D, m), f"F = {answer.F}, D = {D}, m = {m}", case)
-            steps.add(m)
+            t.check(within_bound(answer.F, D, allowed), f"F = {answer.F}, D = {D}, allowed = {allowed}", case)
+            steps.add(allowed)
             figures += 1
     t.check(refusals == {9, 13, 21, 22, 23, 24}, "the chains meet each refusal of a call", refusals)
-    t.check(steps == set(range(1, 41)), "figures at each count of closes", steps)
+    t.check(steps == set(range(2, 42)), "figures at each count of closes", steps)
     t.check(figures > 20_000, "many figures", figures)
 
 
@@ -430,28 +458,28 @@ def test_bound(t):
     _, answer = quarter(open_chain(*SHARP), SHARP_CALL)
     direct = Direct(*SHARP)
     D = direct.D(SHARP_CALL)
-    t.check(within_bound(answer.F, D, 1), "m + 1 covers both floors at the open", (answer, D))
-    t.check(not within_bound(answer.F, D, 0), "m alone does not", (answer, D))
+    t.check(within_bound(answer.F, D, direct.allowed()), "m + 1 covers both floors at the open", (answer, D))
+    t.check(not within_bound(answer.F, D, direct.m), "m alone does not", (answer, D))
     D = Fraction(10_000_000)
     for F in (D + 22, D - 22):
-        t.check(within_bound(F, D, 1), "at the bound", F)
+        t.check(within_bound(F, D, 2), "at the bound", F)
     for F in (D + 22 + Fraction(1, 10**9), D - 23):
-        t.check(not within_bound(F, D, 1), "beyond the bound", F)
-    t.check(not within_bound(1_063_593_000, 1_063_800_000, 2), "old weights kept fall out of the bound")
+        t.check(not within_bound(F, D, 2), "beyond the bound", F)
+    t.check(not within_bound(1_063_593_000, 1_063_800_000, 3), "old weights kept fall out of the bound")
 
 
 def test_hostile_chains(t):
     """Chains made to lose use over four fifths of the bound: with 9 in place of 11 it would not hold."""
     ends = {}
     for case in generate.chain_cases(t.seed, 0):
-        for answer, D, m in follow(t, case):
+        for answer, D, allowed in follow(t, case):
             if D is not None:
-                used = 10_000_000 * abs(answer.F - D) / (11 * (m + 1) * D)
-                t.check(used <= 1, f"F = {answer.F}, D = {D}, m = {m}", case)
-                ends[case.what] = (answer.F, m, used)
+                used = 10_000_000 * abs(answer.F - D) / (11 * allowed * D)
+                t.check(used <= 1, f"F = {answer.F}, D = {D}, allowed = {allowed}", case)
+                ends[case.what] = (answer.F, allowed, used)
     below, above = ends["F below D, 36 closes"], ends["F above D, 35 closes"]
-    t.check(below[:2] == (1_000_039_184, 40) and above[:2] == (6_810_192_920, 40), "the figures of both at m = 40", (below, above))
-    for F, m, used in (below, above):
+    t.check(below[:2] == (1_000_039_184, 41) and above[:2] == (6_810_192_920, 41), "the figures of both at m = 40", (below, above))
+    for F, allowed, used in (below, above):
         t.check(used > Fraction(83, 100), "over four fifths of the bound are used", float(used))
         t.check(used * 11 > 9, "a factor of 9 would be too small", float(used))
 
@@ -467,7 +495,7 @@ def test_direct(t):
     opening = 1_000_010_000 + Fraction(10**9 * 3_333 * 25_000, 10**9)
     D = direct.D([100_000, 100_000, 0])
     t.check(D == 10**9 * sum(direct.e) / opening, "E stays the opening sum", D)
-    t.check(direct.m == 4, "m", direct.m)
+    t.check((direct.m, direct.allowed()) == (4, 5), "m and m + 1", (direct.m, direct.allowed()))
 
 
 def test_forty_closes(t):
@@ -500,6 +528,48 @@ def encoded(command):
     octet, widths = next((octet, widths) for octet, (name, widths) in COMMANDS.items() if name == command[0])
     words = [number.to_bytes(width, "big") for number, width in zip(command[1:], widths)]
     return bytes([octet]) + b"".join(words)
+
+
+def one_at_a_time(interviews, strengths, minima):
+    """Who stays if in each pass only the last sector below its minimum leaves, by whole numbers."""
+    rest, staying = interviews, list(range(len(strengths)))
+    while True:
+        total = sum(strengths[i] for i in staying)
+        low = [i for i in staying if rest * strengths[i] < minima[i] * total]
+        if not low:
+            return rest, staying
+        rest -= minima[low[-1]]
+        staying.remove(low[-1])
+
+
+def law_of_sample(t, case):
+    """The counts add to T, none is below its minimum, and a quota is its whole part and remainder; who leaves does not hang on the order."""
+    interviews, strengths, minima = (case.data[name] for name in ("interviews", "strengths", "minima"))
+    told = share(**case.data)
+    if isinstance(told, Refused):
+        return False
+    sectors = len(strengths)
+    t.check(sum(told.counts) == interviews, "the counts add to T", case)
+    t.check(all(least <= count for least, count in zip(minima, told.counts)), "none is below its minimum", case)
+    t.check(all(len(values) == 64 and not any(values[sectors:]) for values in told), "0 beyond the sectors", case)
+    rest, staying = one_at_a_time(interviews, strengths, minima)
+    total = sum(strengths[i] for i in staying)
+    for i in range(sectors):
+        whole, remainder, count = told.wholes[i], told.remainders[i], told.counts[i]
+        if i in staying:
+            t.check(whole * total + remainder == rest * strengths[i] and remainder < total, "a quota's parts", case)
+            t.check(count in (whole, whole + 1), "the whole part, or one more", case)
+        else:
+            t.check((count, whole, remainder) == (minima[i], 0, 0), "one that left", case)
+    more = [told.counts[i] > told.wholes[i] for i in staying]
+    keys = [(-told.remainders[i], i) for i in staying]
+    t.check(max([k for k, given in zip(keys, more) if given], default=(-total, -1)) < min([k for k, given in zip(keys, more) if not given], default=(1, 0)), "one more by largest remainder, earlier first", case)
+    return True
+
+
+def test_sample_laws(t):
+    accepted = sum(law_of_sample(t, case) for case in generate.sample_cases(t.seed, t.count(400, 20_000)))
+    t.check(accepted > 300, "many are accepted", accepted)
 
 
 def test_reader_laws(t):
@@ -608,3 +678,38 @@ def test_refused_and_figure_differ(t):
     t.check(Drawn(1, 2) != (1, 2) and Refused(5) == Refused(5), "values agree")
     t.check(Record(1, [0], 1, 0) != Record(1, [1], 1, 0), "records differ by a weight")
     t.check(Record(1, [7], 1, 0) == Record(1, [7], 1, 0), "records agree by their values")
+
+
+# Registers
+
+
+def test_worked_registers(t):
+    """The worked texts of document 02's reading, with their offsets."""
+    room = ([1], [2], [3])
+    for text, offset in (
+        (b"1,2,3\n4,5,6\nx", 12),
+        (b"18446744073709551617,2,3", 0),
+        (b"1,2,3\r", 0),
+        (b"1,2,3\n\n", 6),
+        (b"1,2,3\n ", 6),
+        (b"1,2,3\r\n4,5,6\r\n\r\n", 14),
+    ):
+        t.check(import_lists(text, *room) == (BadLine(offset=offset), *room), "34 at its offset, nothing written", text)
+    t.check(import_lists(b"1,2,3\n4,5,6\n", *room) == (Refused(35), *room), "35, nothing written")
+    t.check(import_lists(b"7,8,9", [1, 4], [2, 5], [3, 6]) == (1, [7, 4], [8, 5], [9, 6]), "places beyond stay")
+    t.check(import_lists(b"", [], [], []) == (0, [], [], []), "no lines")
+
+
+def test_register_laws(t):
+    """A good text is its units printed; a bad line is the first, and the text before it is good."""
+    for case in generate.register_cases(t.seed, t.count(300, 5_000)):
+        text = case.data["text"]
+        units = units_of(text)
+        if isinstance(units, BadLine):
+            before = text[: units.offset]
+            t.check(not before or before.endswith(b"\n"), "a line begins after a line feed", case)
+            t.check(line_number(text, units.offset) == len(units_of(before)) + 1, "all lines before it are good", case)
+        else:
+            printed = b"".join(b"%d,%d,%d\n" % unit for unit in units)
+            t.check(units_of(printed) == units, "the units printed are the same units", case)
+            t.check(len(units) == text.count(b"\n") + (text[-1:] not in (b"", b"\n")), "a unit a line", case)

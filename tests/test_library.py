@@ -4,7 +4,8 @@ from collections import Counter
 
 import generate
 import library
-from independent import Refused, chain, frame, load, stream
+from cases.samples import WORKED
+from independent import Refused, chain, frame, load, register, sample, sheet, stream, writing
 from independent.chain import Direct, Figure, Record, within_bound
 
 # Refusals that each entry has; each must be met many times.
@@ -17,6 +18,12 @@ REFUSALS = {
     "close_cases": {9, 13, 19, 21, 22, 23, 24},
     "total_cases": {14},
     "load_cases": {33},
+    "word_cases": {17},
+    "sample_cases": {31},
+    "register_cases": {34, 35},
+    "sheet_cases": {32},
+    "write_cases": {15, 16, 27},
+    "read_all_cases": {6, 15, 16, 17},
 }
 
 
@@ -207,7 +214,7 @@ def follow(t, case):
         t.check((told, ours) == (expected, theirs), f"chain: a {name} and the record after it", repeat=case)
         if isinstance(expected, Figure):
             figures += 1
-            t.check(within_bound(told.F, exact.D(p), exact.m), "chain: the figure is within the bound", repeat=case)
+            t.check(within_bound(told.F, exact.D(p), exact.allowed()), "chain: the figure is within the bound", repeat=case)
             if name == "close":
                 exact.closed(p)
     return figures, theirs.closes
@@ -270,3 +277,122 @@ def test_loads_are_drawn(t):
         t.check(answer == frame.draw(*lists, z, first, [0] * z, [0] * z)[0], "a load is drawn", repeat=(start, count, z, first))
         if start == 12_345:
             t.check((panel, weights) == ([90, 307, 314], [4_969_607_296] * 3), "the worked draw")
+
+
+def test_word(t):
+    compared(t, "word_cases", 300, 20_000, lambda data: library.front_word(**data), lambda data: stream.front_word(**data))
+    t.check(library.built().vougecress_word(None, 0).refusal == 17, "nothing lent is cut short, and no end")
+
+
+def test_two_words(t):
+    """A turnover and a start index as the reader answers them are two words, the upper first."""
+    for case in generate.word_cases(t.seed, t.count(100, 5_000)):
+        octets = (case.data["part"] + bytes(16))[:16]
+        both = library.front_word(octets[:8]) * 2**32 + library.front_word(octets[4:])
+        t.check(library.read_command(b"\x05" + octets)[0] == ("open", both), "a start index is two words", repeat=case)
+        t.check(library.read_command(b"\x01" + octets[12:] + octets)[0][2] == both, "a turnover is two words", repeat=case)
+    t.check(library.front_word(b"\0\0\0\1") * 2**32 + library.front_word(b"\0\0\0\2") == 4_294_967_298, "the upper first")
+def test_sample(t):
+    compared(t, "sample_cases", 600, 30_000, lambda data: library.share(**data), lambda data: sample.share(**data))
+
+
+# The worked answers: counts, whole parts and remainders of the sectors.
+WORKED_ANSWERS = {
+    "two passes": ([2, 3, 5, 0], [1, 0, 0, 0], [4, 0, 0, 4]),
+    "remainders are not reduced": ([1, 1, 1], [0, 0, 1], [6, 6, 4]),
+    "equal remainders": ([1, 1, 0], [0, 0, 0], [2, 2, 2]),
+    "one leaves": ([43, 40, 17], [42, 0, 17], [6, 0, 1]),
+    "a quota that equals its minimum": ([2, 2], [2, 2], [0, 0]),
+    "nothing to share": ([0, 0], [0, 0], [0, 0]),
+}
+
+
+def test_worked_samples(t):
+    """Each worked case by its own numbers; beyond the sectors every place is 0."""
+    t.check(set(WORKED) == set(WORKED_ANSWERS), "each worked case has an answer")
+    for what, expected in WORKED_ANSWERS.items():
+        told = library.share(*WORKED[what])
+        t.check(tuple(told) == tuple(values + [0] * (64 - len(values)) for values in expected), what, repeat=told)
+def test_import(t):
+    compared(t, "register_cases", 400, 20_000, lambda data: library.import_lists(**data), lambda data: register.import_lists(**data))
+
+
+def test_import_units(t):
+    """The same texts into a list of unit records."""
+    for case in generate.register_cases(t.seed, 4_000 if t.long else 200):
+        text, *lists = case.data.values()
+        units = list(zip(*lists))
+        t.check(library.import_units(text, units) == register.import_units(text, units), "as the independent computation", repeat=case)
+
+
+def test_damaged_registers(t):
+    """Every byte of a text changed to each of the bytes that matter, left out, and put in."""
+    text = b"1,2,3\r\n4294967295,18446744073709551615,00000000004294967295\n70,80,90"
+    room = [[5] * 3, [6] * 3, [7] * 3]
+    for at in range(len(text) + 1):
+        for byte in b"09,\n\r x/:\x00\xff":
+            for damaged in (text[:at] + bytes([byte]) + text[at + 1 :], text[:at] + bytes([byte]) + text[at:], text[:at] + text[at + 1 :], text[:at]):
+                t.check(library.import_lists(damaged, *room) == register.import_lists(damaged, *room), "as the independent computation", repeat=damaged)
+
+
+def test_long_register(t):
+    """A text of many megabytes, refused by its last line or for its length: every list as it was."""
+    lines = b"1,2,3\n" * 1_000_000
+    room = [[5] * 10, [6] * 10, [7] * 10]
+    t.check(library.import_lists(lines, *room) == (Refused(35), *room), "more lines than places")
+    t.check(library.import_lists(lines + b"1,2,3\r", *room) == (register.BadLine(offset=len(lines)), *room), "the last line is bad")
+def test_sheet(t):
+    compared(t, "sheet_cases", 2_000, 100_000, lambda data: library.sheet(**data), lambda data: sheet.sheet(**data))
+
+
+def test_sheet_of_every_change(t):
+    """A figure and each of its neighbours at exact hundredths of a percent: c, the rest and the print."""
+    for old in (10**8, 10**9, 1_064_332_000, 10**10):
+        for c in (*range(-130, 131), -9_900, -9_899, -100, 9_999, 10_000, 990_000):
+            for new in {old + old * c // 10_000 + beside for beside in (-1, 0, 1)}:
+                if 10**8 <= new <= 10**10:
+                    out = bytes([7] * 50)
+                    t.check(library.sheet(b"x", new, old, out) == sheet.sheet(b"x", new, old, out), "a line", repeat=(new, old))
+def test_write(t):
+    compared(t, "write_cases", 300, 10_000, lambda data: library.write(**data), lambda data: writing.write(**data))
+
+
+def test_read_all(t):
+    compared(t, "read_all_cases", 60, 2_000, lambda data: library.read_all(**data), lambda data: writing.read_all(**data))
+
+
+def test_round_trips(t):
+    """Written and read: the commands given, absent operands 0. Read and written: the same bytes, and the bytes beyond stay."""
+    met = Counter()
+    for case in generate.write_cases(t.seed + 1, t.count(100, 3_000)):
+        length, out = library.write(**case.data)
+        if isinstance(length, Refused):
+            continue
+        met["written"] += 1
+        rows = zip(*(case.data[name] for name in writing.LISTS))
+        wanted = [writing.row_of(stream.read_command(writing.octets_of(row))[0]) for row in rows]
+        count, *lists = library.read_all(out[:length], *([7] * (len(wanted) + 1) for _ in writing.LISTS))
+        read = [list(row) for row in zip(*(column[:count] for column in lists))]
+        t.check(read == wanted and all(column[count:] == [7] for column in lists), "written and read", repeat=case)
+    for case in generate.stream_cases(t.seed, t.count(20, 500)):
+        octets = case.data["stream"]
+        room = len(octets)
+        count, *lists = library.read_all(octets, *([0] * room for _ in writing.LISTS))
+        if isinstance(count, Refused):
+            continue
+        met["read"] += 1
+        again = library.write(*(column[:count] for column in lists), bytes([170]) * (room + 3))
+        t.check(again == (room, octets + bytes([170]) * 3), "read and written", repeat=case)
+    t.check(min(met["written"], met["read"]) > 50, "many were written and read", repeat=dict(met))
+
+
+def test_written_listing(t):
+    """The listing's 156 bytes from its commands; nothing lent at all is an empty stream."""
+    count, *lists = writing.read_all(generate.LISTING, *([0] * 20 for _ in writing.LISTS))
+    given = [column[:count] for column in lists]
+    t.check(library.write(*given, bytes(156)) == (156, generate.LISTING), "the listing's bytes")
+    t.check(library.write(*given, bytes(155)) == (Refused(27), bytes(155)), "one byte too few")
+    written = library.built().vougecress_write(*[None, 0] * 7)
+    t.check((written.refusal, written.length) == (0, 0), "nothing is written as nothing")
+    listed = library.built().vougecress_read_all(*[None, 0] * 7)
+    t.check((listed.refusal, listed.count) == (0, 0), "nothing is read as nothing")

@@ -12,7 +12,7 @@ from pathlib import Path
 
 import generate
 import library
-from independent import Refused, chain, frame, load, stream
+from independent import Refused, chain, frame, load, register, sample, sheet, stream, writing
 
 TOP = Path(__file__).resolve().parent.parent
 TEXT = (TOP / "docs" / "METHOD.md").read_text()
@@ -216,11 +216,11 @@ class Chain(Example):
         """D, and the two sides of the bound."""
         if self.direct is None:
             return []
-        D, m = self.direct.D(p), self.direct.m
-        self.t.check(chain.within_bound(F, D, m), f"{self.where}: F is within the bound", (F, D, m))
+        D, m, allowed = self.direct.D(p), self.direct.m, self.direct.allowed()
+        self.t.check(chain.within_bound(F, D, allowed), f"{self.where}: F is within the bound", (F, D, m))
         if word == "close":
             self.direct.closed(p)
-        return facts_of(D=D, m=m, distance=10_000_000 * abs(F - D), bound=11 * (m + 1) * D)
+        return facts_of(D=D, m=m, distance=10_000_000 * abs(F - D), bound=11 * allowed * D)
 
 
 class Total(Example):
@@ -232,6 +232,31 @@ class Total(Example):
         self.same(library.total(shares, indices), answer)
         self.answers(answer, **({} if isinstance(answer, Refused) else {"total": answer.total}))
         self.facts = facts_of(sum=sum(share * index for share, index in zip(shares, indices)))
+
+
+class Sample(Example):
+    """interviews, strengths, minima; the lists' places beyond the sectors are 0 and are not stated"""
+
+    def reckon(self):
+        strengths, minima = self.lists("strengths", "minima")
+        data = (self.one("interviews"), strengths, minima)
+        answer = sample.share(*data)
+        self.same(library.share(*data), answer)
+        refused = isinstance(answer, Refused)
+        self.answers(answer, **({} if refused else {name: values[: len(strengths)] for name, values in answer._asdict().items()}))
+        self.facts = [] if refused else list(self.passes(*data))
+
+    @staticmethod
+    def passes(rest, strengths, minima):
+        """A line for each pass; sectors count from 1."""
+        staying, number = list(range(len(strengths))), 0
+        while number == 0 or low:
+            number += 1
+            total = sum(strengths[i] for i in staying)
+            low = [i for i in staying if rest * strengths[i] < minima[i] * total]
+            yield f"pass {number}: T' {rest}, strengths {total}, leaving {' '.join(str(i + 1) for i in low) or 'none'}"
+            rest -= sum(minima[i] for i in low)
+            staying = [i for i in staying if i not in low]
 
 
 class Stream(Example):
@@ -271,6 +296,36 @@ class Stream(Example):
         self.same(library.run(self.octets, b"\0" * len(expected)), (0, len(expected), expected))
 
 
+class Word(Example):
+    """part: its bytes as numbers"""
+
+    def reckon(self):
+        part = bytes(self.given["part"])
+        answer = stream.front_word(part)
+        self.same(library.front_word(part), answer)
+        self.answers(answer, **({} if isinstance(answer, Refused) else {"word": answer}))
+class Sheet(Example):
+    """name, new, old and the bytes of the buffer; stated are c, the rest, and what stands in the figure's and the change's columns"""
+
+    def take(self, line):
+        word, _, rest = line.partition(" ")
+        if word == "name":
+            self.given["name"] = rest.encode()
+        else:
+            super().take(line)
+
+    def reckon(self):
+        name, new, old = self.given["name"], self.one("new"), self.one("old")
+        out = b"." * self.one("buffer")
+        answer, after = sheet.sheet(name, new, old, out)
+        self.same(library.sheet(name, new, old, out), (answer, after))
+        if isinstance(answer, Refused):
+            self.answers(answer)
+        else:
+            figure, change = (after[start : start + 14].decode().strip() for start in (20, 34))
+            self.answers(answer, c=answer.c, rest=answer.rest, figure=figure, change=change)
+
+
 KINDS = {
     "frame": Frame,
     "take-all": TakeAll,
@@ -278,7 +333,10 @@ KINDS = {
     "rotate": Rotate,
     "chain": Chain,
     "total": Total,
+    "sample": Sample,
     "stream": Stream,
+    "word": Word,
+    "sheet": Sheet,
 }
 
 
@@ -410,6 +468,11 @@ def record_of(data):
     return chain.Record(data["units"], data["weights"], data["index"], data["closes"])
 
 
+def number_of(answer):
+    """A refusal's number without what comes with it."""
+    return Refused(answer.number) if isinstance(answer, Refused) else answer
+
+
 ENTRIES = {
     "take-all": (generate.take_all_cases, lambda data: frame.take_all_entry(**data)[0]),
     "draw": (generate.draw_cases, lambda data: frame.draw(**data)[0]),
@@ -420,6 +483,12 @@ ENTRIES = {
     "total": (generate.total_cases, lambda data: chain.total(**data)),
     "read": (generate.reader_cases, lambda data: stream.read_command(data["part"])[0]),
     "load": (generate.load_cases, lambda data: load.load(**data)[0]),
+    "word": (generate.word_cases, lambda data: stream.front_word(data["part"])),
+    "sample": (generate.sample_cases, lambda data: sample.share(**data)),
+    "import": (generate.register_cases, lambda data: number_of(register.import_lists(**data)[0])),
+    "sheet": (generate.sheet_cases, lambda data: sheet.sheet(**data)[0]),
+    "write": (generate.write_cases, lambda data: writing.write(**data)[0]),
+    "read-all": (generate.read_all_cases, lambda data: writing.read_all(**data)[0]),
 }
 
 
@@ -440,7 +509,7 @@ def test_orders_of_the_entries(t):
                 pairs.add((case.intends, int(also[1])))
         order = stated.get(entry, [])
         t.check(met == set(order), f"METHOD.md: the refusals of {entry} are {sorted(met)}", order)
-        if entry != "read":  # its cases have one fault each: a part can hardly have two
+        if entry not in ("read", "read-all"):  # one fault each: a part can hardly have two, and in a stream the first command that has one decides
             wrong = sorted(pairs ^ set(combinations(order, 2)))
             t.check(not wrong, f"METHOD.md: of any two refusals of {entry} the first is answered", wrong)
 
@@ -511,6 +580,8 @@ WORDS = {
     21: [LIMIT["leastWeight"]],
     22: [LIMIT["mostWeight"]],
     23: INDEX,
+    31: [LIMIT["mostSectors"], LIMIT["mostInterviews"]],
+    32: [LIMIT["nameColumns"], LIMIT["lowestPrintable"], LIMIT["highestPrintable"], *INDEX, LIMIT["lineBytes"]],
     33: [LIMIT["stateRange"], 0, LIMIT["mostFrame"]],
 }
 
@@ -518,7 +589,7 @@ WORDS = {
 def test_refusals(t):
     """All numbers, each with the limits in its words, and with the entries that the orders name for it."""
     rows = table("### All refusals")
-    t.check([int(row[0]) for row in rows] == [*range(1, 25), 33], "METHOD.md: 1 to 24, and 33", [row[0] for row in rows])
+    t.check([int(row[0]) for row in rows] == [*range(1, 25), 27, *range(31, 36)], "METHOD.md: each number", [row[0] for row in rows])
     orders = {entry: numbers_in(order) for entry, order in table("### Orders of the entries")}
     commands = [number for _, order in table("### Orders of the stream") for number in numbers_in(order)]
     for number, words, places in rows:

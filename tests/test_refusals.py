@@ -12,7 +12,8 @@ from words import REFUSALS
 
 HEADER = (TOP / "include" / "vougecress.h").read_text()
 # Limits that only the inside of a computation meets: they stand in no header and no message.
-INNER = {"steps", "stepLength", "boundScale", "boundFactor", "linkScale", "stateFactor", "stateAddend", "turnoverRange"}
+INNER = {"steps", "stepLength", "boundScale", "boundFactor", "linkScale", "stateFactor", "stateAddend", "turnoverRange", "mostShort", "mostLong"}
+INNER |= {"numberColumns", "lowestPrintable", "highestPrintable", "changeScale", "figureDecimals", "changeDecimals"}
 
 
 def shouted(name):

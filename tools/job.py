@@ -11,7 +11,7 @@
 A panel unit may be named by its number: share unit NUMBER SHARE, relative unit NUMBER RELATIVE.
 Before an open a relative leads from the reference year to the opening. After it, it is measured
 against the opening, or against the last accepted close, and never against the quarter before:
-2 percent, and 2 percent more in the next quarter, are 10200 and 10404; 10200 twice gives the same
+2 percent, and 2 percent more in the next quarter, are 102000 and 104040; 102000 twice gives the same
 figure twice.
 Empty lines and what follows a # are left out.
 """

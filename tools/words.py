@@ -29,7 +29,12 @@ REFUSALS = {
     22: ("WeightSum", "sum of v over 10^13, at open or after close"),
     23: ("FigureRange", "F outside 10^8 to 10^10"),
     24: ("ClosesSpent", "forty closes accepted (quarter too)"),
+    27: ("Writing", "lists given are unequal, or the buffer is shorter than the stream needs"),
+    31: ("Sample", "the lists are unequal, empty or over 64, a strength is out of range, T is over 6,400 or the minima together exceed T"),
+    32: ("SheetLine", "a name is otherwise, a figure is outside 10^8 to 10^10 or the buffer is shorter than 49 bytes (a name is 1 to 20 printable ASCII bytes)"),
     33: ("TestLoad", "the start is 2^31 or more, or the count is 0 or over 16,384, or a buffer is shorter"),
+    34: ("RegisterLine", "a line is not of this form"),
+    35: ("RegisterRoom", "there are more lines than the list holds"),
 }
 
 

@@ -302,6 +302,18 @@ def reader_cases(rng, count):
         yield None, "random", {"part": bytes([rng.randrange(10)]) + junk_bytes(rng, rng.randrange(25))}
 
 
+@cases
+def word_cases(rng, count):
+    """Parts of every length from 0 to 9 and over 32,768 bytes, the worked parts, then random ones; 17 below four bytes."""
+    for part in (b"\x01\x02\x03\x04", b"\xff\xff\xff\xff\x00", b"\x00\x00\x01\x00" * 10_000, b"\x00" * 4, b"\x80\x00\x00\x00"):
+        yield 0, "a worked part", {"part": part}
+    yield from limits_of([("four bytes", (0, {"part": b"\x01\x02\x03\x04"}), (17, {"part": b"\x01\x02\x03"}))])
+    for length in (*range(10), 32_768, 32_769, 100_000):
+        yield 17 if length < 4 else 0, f"{length} bytes", {"part": junk_bytes(rng, length)}
+    for _ in range(count):
+        yield None, "random", {"part": junk_bytes(rng, rng.randrange(10))}
+
+
 def junk_bytes(rng, count):
     """Any bytes."""
     return bytes(rng.randrange(256) for _ in range(count))

@@ -187,7 +187,7 @@ class Direct:
     """e, E and m, reckoned from the open's arguments and the accepted calls, never from a record."""
 
     def __init__(self, W, g, a, start):
-        self.start = start
+        self.start = Fraction(start)
         self.e = [Fraction(W[i] * g[i] * a[i], 1_000_000_000) for i in range(len(W))]
         self.E = sum(self.e)
         self.m = 1
@@ -202,12 +202,16 @@ class Direct:
         self.e = [self.e[i] * Fraction(p[i], SCALE) for i in range(len(p))]
         self.m += 1
 
+    def allowed(self):
+        """What the bound multiplies: m + 1."""
+        return self.m + 1
 
-def within_bound(F, D, m):
-    """10,000,000 x |F - D| <= 11 x (m + 1) x D, both sides multiplied by D's denominator."""
+
+def within_bound(F, D, allowed):
+    """10,000,000 x |F - D| <= 11 x allowed x D, both sides multiplied by D's denominator."""
     D = Fraction(D)
     distance = abs(F * D.denominator - D.numerator)
-    return 10_000_000 * distance <= 11 * (m + 1) * D.numerator
+    return 10_000_000 * distance <= 11 * allowed * D.numerator
 
 
 # Total

@@ -51,6 +51,11 @@ def big_endian(octets):
     return number
 
 
+def front_word(part):
+    """Document 02, [3]: the 32-bit word at the front of a part, or 17 when fewer than four bytes are left."""
+    return big_endian(part[:4]) if len(part) >= 4 else Refused(17)
+
+
 def read_command(part):
     """The command at the front of a part (or END, or 15, 16, 17) and the rest after it.
 

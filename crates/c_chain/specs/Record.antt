@@ -4,7 +4,7 @@ use mathlib.Core.List.{List}
 use lib.ListN.{length}
 use lib.Dec.{ltb}
 use Rattle.rules.specs.Refusals.{Judged, refuse, _then_, judged, written}
-use Rattle.rules.specs.Chain.{Call, relatives, openRefusal, openRecord, figureOf, callRefusal, accepted}
+use Rattle.rules.specs.Chain.{Call, relatives, shared, openRefusal, openRecord, figureOf, callRefusal, accepted}
 use Rattle.c_values.specs.Record.{recordPlaces, recordIn, recordList}
 
 -- a list that is too short is no record: 19, before all else
@@ -24,4 +24,4 @@ openedNumber ws gs rs start xs = refuse (ltb (length xs) recordPlaces) 6 then op
 
 -- the list after an open: the new record in its first places, or as it was
 unfoldable pub openedList : List ℕ → List ℕ → List ℕ → ℕ → List ℕ → List ℕ
-openedList ws gs rs start xs = written (openedNumber ws gs rs start xs) (recordList (openRecord ws gs rs start)) xs
+openedList ws gs rs start xs = written (openedNumber ws gs rs start xs) (recordList (openRecord (shared ws gs) rs start)) xs

@@ -4,13 +4,13 @@ use mathlib.Core.List.{List, _∷_}
 use lib.ListN.{getD, take, drop}
 use Rattle.rules.specs.Limits.{mostPanel}
 use Rattle.rules.specs.Chain.{Chain}
+use Rattle.chain_record.specs.Record.{recordWith, numbersWith}
 
 abbrev pub recordPlaces : ℕ
 recordPlaces = 103
 
 abbrev pub recordIn : List ℕ → Chain
-recordIn xs =
-    record { weights = take mostPanel (drop 3 xs); units = getD xs 0 0; index = getD xs 1 0; closes = getD xs 2 0 }
+recordIn xs = recordWith (take mostPanel (drop 3 xs)) (numbersWith (getD xs 0 0) (getD xs 1 0) (getD xs 2 0))
 
 abbrev pub recordList : Chain → List ℕ
 recordList r = r .units ∷ r .index ∷ r .closes ∷ r .weights

@@ -33,12 +33,8 @@ pub fn load(lent: &[u64]) -> Chain
 {
     let mut v = [0u64; MOST_PANEL];
     copy(&lent[BEFORE..RECORD], &mut v);
-    Chain {
-        weights: v,
-        units: lent[0] as usize,
-        index: lent[1],
-        closes: lent[2],
-    }
+    let numbers = chain_record::with(lent[0] as usize, lent[1], lent[2]);
+    chain::of(v, numbers)
 }
 
 // Lays a record into a lent list; what is beyond its places stays.
@@ -46,9 +42,10 @@ fn store(chain: Chain, lent: &mut [u64])
     requires { ⌜ recordPlaces ≤ length (now lent) ⌝ }
     ensures { λ _. ⌜ now (lent .exit) ≡ written 0 (recordList (recordOf chain)) (now (lent .entry)) ⌝ }
 {
-    lent[0] = chain.units as u64;
-    lent[1] = chain.index;
-    lent[2] = chain.closes;
+    let numbers = chain.numbers;
+    lent[0] = numbers.units as u64;
+    lent[1] = numbers.index;
+    lent[2] = numbers.closes;
     let v = chain.weights;
     copy(&v, &mut lent[BEFORE..RECORD]);
 }

@@ -2,7 +2,6 @@
 use mathlib.Core.Path.{_≡_, sym, ap, _∙_}
 use mathlib.Core.List.{List, _++_}
 use Prim.Native.Nat.{ℕ, _+_, _<_, _≤_, _^_}
-use native.Mathlib.Numerals.{add-one}
 use native.Mathlib.Omega.{arith}
 use lib.ListN.{length, take, drop, length-append, length-drop}
 use lib.Seq.{length-take-le, take-at}
@@ -14,54 +13,59 @@ use Rattle.rules.specs.Limits.{relativeScale, mostPanel}
 use Rattle.rules.specs.Refusals.{Judged, _then_}
 use Rattle.rules.specs.Lists.{sum, products, scaled}
 use Rattle.rules.specs.Chain.{Chain, Call, relatives, held, moved, figureOf, accepted, callAnswer, after}
-use Rattle.rules.specs.Chain.{callInputRefusal, newWeightRefusal, callRefusal}
+use Rattle.rules.specs.Chain.{callInputRefusal, weightRefusal, callRefusal}
 use Rattle.rules.proofs.Refusals.{then-goes, given-tells, refused-tells}
 use Rattle.rules.proofs.Lists.{length-scaled, scaled-take, products-take}
-use Rattle.rules.proofs.Chains.{Admitted, admitted}
+use Rattle.rules.proofs.Chains.{Admitted}
 use Rattle.chain_sums.proofs.Relatives.{products-bound}
-use Rattle.chain_figure.specs.Steps.{recordWith, Reckoning, reckoningOf, reckonedOf, reckonedFrom}
+use Rattle.chain_figure.specs.Steps.{Reckoning, reckoningOf, reckonedOf, reckonedFrom}
 use Rattle.chain_figure.specs.declared.Reckoned.{Reckoned}
 use Rattle.chain_figure.specs.declared.Reckoned.the-variants.{Refused, Figure}
 
 -- ---- the answer and the record
-module _ (r : Chain) (call : Call) where
-  pub refused-call : (why : Refusal) → numberOf why ≡ callRefusal r call → (Judged.refused (numberOf why) ≡ callAnswer r call) × (r ≡ after r call)
-  unfolding callAnswer after
-  refused-call why e = (refused-by why _ e _, stays-by why _ e _ _)
+pub refused-call : (r : Chain) (call : Call) (why : Refusal) → numberOf why ≡ callRefusal r call →
+    (Judged.refused (numberOf why) ≡ callAnswer r call) × (r ≡ after r call)
+unfolding callAnswer after
+refused-call r call why e = (refused-by why _ e _, stays-by why _ e _ _)
 
-  pub accepted-call : (f : ℕ) (next : Chain) → callRefusal r call ≡ 0 → f ≡ figureOf r (relatives call) → next ≡ accepted r call →
-      (Judged.given f ≡ callAnswer r call) × (next ≡ after r call)
-  unfolding callAnswer after
-  accepted-call f next none figure moves = (rw (none, figure), rw (none, moves))
+pub accepted-call : (r : Chain) (call : Call) (f : ℕ) (next : Chain) → callRefusal r call ≡ 0 → f ≡ figureOf r (relatives call) →
+    next ≡ accepted r call → (Judged.given f ≡ callAnswer r call) × (next ≡ after r call)
+unfolding callAnswer after
+accepted-call r call f next none figure moves = (rw (none, figure), rw (none, moves))
 
-  -- what the code's reckoning of the call tells
-  module _ (x : Reckoned) (e : reckonedFrom x ≡ reckonedOf r (relatives call)) where
-    pub input-refused : (why : Refusal) → x ≡ Refused why → numberOf why ≡ callRefusal r call
-    unfolding reckonedOf callRefusal
-    input-refused why told = stops-by why _ _ (refused-tells _ _ _ (sym (ap reckonedFrom told) ∙ e))
+-- ---- what the code's reckoning of the relatives tells
+module _ (r : Chain) (ps : List ℕ) (x : Reckoned) (e : reckonedFrom x ≡ reckonedOf r ps) where
+  pub input-refused : (call : Call) → relatives call ≡ ps → (why : Refusal) → x ≡ Refused why → numberOf why ≡ callRefusal r call
+  unfolding reckonedOf callRefusal
+  input-refused call same why told =
+      let number = refused-tells _ _ _ (sym (ap reckonedFrom told) ∙ e) in
+      stops-by why _ _ (number ∙ ap (callInputRefusal r) (sym same))
 
-    module _ (f : ℕ) (late : Verdict) (told : x ≡ Figure f late) where
-      tells : (callInputRefusal r (relatives call) ≡ 0) × (record { figure = f; late = verdictOf late } ≡ reckoningOf r (relatives call))
-      unfolding reckonedOf
-      tells = given-tells _ _ _ (sym (ap reckonedFrom told) ∙ e)
+  module _ (f : ℕ) (late : Verdict) (told : x ≡ Figure f late) where
+    tells : (callInputRefusal r ps ≡ 0) × (record { figure = f; late = verdictOf late } ≡ reckoningOf r ps)
+    unfolding reckonedOf
+    tells = given-tells _ _ _ (sym (ap reckonedFrom told) ∙ e)
 
-      pub input-passed : Admitted r (relatives call)
-      input-passed = admitted r (relatives call) (tells .0)
+    pub passed : callInputRefusal r ps ≡ 0
+    passed = tells .0
 
-      pub figure-is : f ≡ figureOf r (relatives call)
-      figure-is = ap (λ (y : Reckoning). y .figure) (tells .1)
+    pub figure-is : f ≡ figureOf r ps
+    figure-is = ap (λ (y : Reckoning). y .figure) (tells .1)
 
-      -- new weights are judged before 23 and 24
-      pub refusal-is : callRefusal r call ≡ (newWeightRefusal r call then verdictOf late)
-      unfolding callRefusal
-      refusal-is = then-goes _ _ (tells .0) ∙ sym (ap (λ (y : Reckoning). newWeightRefusal r call then y .late) (tells .1))
+    -- what is left to refuse: 23 and 24 of a quarter, and of a close 21 and 22 of the new weights before them
+    pub quarter-refusal : callRefusal r (Call.quarter ps) ≡ verdictOf late
+    unfolding callRefusal _then_
+    quarter-refusal = then-goes _ _ passed ∙ sym (ap (λ (y : Reckoning). y .late) (tells .1))
 
--- the record of a close whose places, index and count of closes are those
-pub closed-record : (r : Chain) (ps next : List ℕ) (f : ℕ) → next ≡ moved r ps ++ drop (r .units) (r .weights) → f ≡ figureOf r ps →
-    recordWith next (r .units) f (r .closes + 1) ≡ accepted r (Call.close ps)
-closed-record r ps next f e h = rw (e, h, add-one)
+    pub close-refusal : callRefusal r (Call.close ps) ≡ (weightRefusal (held r) (moved r ps) then verdictOf late)
+    unfolding callRefusal
+    close-refusal = then-goes _ _ passed ∙ sym (ap (λ (y : Reckoning). weightRefusal (held r) (moved r ps) then y .late) (tells .1))
 
 -- ---- the places of an admitted record
+-- after a close: the moved weights, and the places beyond the units as they are
+abbrev pub movedPlaces : Chain → List ℕ → List ℕ
+movedPlaces r ps = moved r ps ++ drop (r .units) (r .weights)
+
 module _ (r : Chain) (ps : List ℕ) (places : length (r .weights) ≡ mostPanel) (a : Admitted r ps) where
   pub units-fit : r .units ≤ length (r .weights)
   units-fit = omega (arith, a .sound .most)
@@ -89,8 +93,8 @@ module _ (r : Chain) (ps : List ℕ) (places : length (r .weights) ≡ mostPanel
   length-moved = length-scaled relativeScale (held r) ps (length-held ∙ sym (a .long)) ∙ length-held
 
   -- the new weights with the places beyond the units fill the record, and are the first of it
-  pub length-next : length (moved r ps ++ drop (r .units) (r .weights)) ≡ mostPanel
-  length-next = simp length-append (omega (arith, places, length-moved, length-drop (r .units) (r .weights), units-fit))
+  pub length-places : length (movedPlaces r ps) ≡ mostPanel
+  length-places = simp length-append (omega (arith, places, length-moved, length-drop (r .units) (r .weights), units-fit))
 
-  pub take-next : take (r .units) (moved r ps ++ drop (r .units) (r .weights)) ≡ moved r ps
-  take-next = take-at (moved r ps) _ (r .units) length-moved
+  pub take-places : take (r .units) (movedPlaces r ps) ≡ moved r ps
+  take-places = take-at (moved r ps) _ (r .units) length-moved

@@ -108,12 +108,16 @@ module _ (r : Chain) (full : length (held r) ≡ r .units) where
       reached relativeScale (held r) refl (accepted-call (Call.close ps) e .fits) (refuse-none _ 20 (weights .0))
 
 -- ---- open
--- What an accepted open tells: u and v reach the least weight, and the record has a weight for each unit.
-pub record Opened (ws gs rs : List ℕ) (start : ℕ) : Type 0 where
+-- What an accepted open tells of its u, whatever made them, and of its start index: the v reach the least weight, one for each unit.
+pub record Opened (us rs : List ℕ) (start : ℕ) : Type 0 where
   pub started : lowestIndex ≤ start
+  pub updates : Reached leastWeight relativeScale us rs
+  pub long : length (opening us rs) ≡ length us
+
+-- What it tells of the u of W and g: they reach it too, one for each W.
+pub record Shared (ws gs : List ℕ) : Type 0 where
   pub shares : Reached leastWeight shareScale ws gs
-  pub updates : Reached leastWeight relativeScale (shared ws gs) rs
-  pub long : length (opening ws gs rs) ≡ length ws
+  pub long : length (shared ws gs) ≡ length ws
 
 -- 12 does not apply
 started-high : (ws gs rs : List ℕ) (start : ℕ) → openInputRefusal ws gs rs start ≡ 0 → lowestIndex ≤ start
@@ -122,7 +126,7 @@ started-high ws gs rs start e =
     let p11 : _ = then-none _ _ (then-none _ _ (then-none _ _ e .1) .1) in
     within _ _ _ (refuse-none _ 11 (then-none _ _ (p11 .1) .0)) .0
 
-pub accepted-open : (ws gs rs : List ℕ) (start : ℕ) → openRefusal ws gs rs start ≡ 0 → Opened ws gs rs start
+pub accepted-open : (ws gs rs : List ℕ) (start : ℕ) → openRefusal ws gs rs start ≡ 0 → Shared ws gs × Opened (shared ws gs) rs start
 unfolding openRefusal weightRefusal
 accepted-open ws gs rs start e =
     let input : _ = then-none _ _ e in
@@ -132,9 +136,11 @@ accepted-open ws gs rs start e =
     let first = reached shareScale ws lg (itself gs) (refuse-none _ 20 (weights .0)) in
     let fits = fit gs rs (o .lists .relatives ∙ lg) (o .relatives) in
     let second = reached relativeScale (shared ws gs) (reached-length first) fits (refuse-none _ 20 (then-none _ _ (weights .1) .0)) in
-    record {
-      started = started-high ws gs rs start (input .0);
-      shares = first;
-      updates = second;
-      long = reached-length second ∙ o .lists .relatives;
-    }
+    let units = reached-length first ∙ o .lists .shares in (
+      record { shares = first; long = units },
+      record {
+        started = started-high ws gs rs start (input .0);
+        updates = second;
+        long = reached-length second ∙ o .lists .relatives ∙ sym units;
+      },
+    )

@@ -1,53 +1,52 @@
 -- The theorem on numbers: what it says of the listing of document 01 and of forty closes, why its bound has m + 1, and which wrong
 -- programs it rules out. All by computing the definitions.
-use mathlib.Core.Path.{_≡_, refl, sym, _∙_}
-use Prim.Native.Nat.{ℕ, suc, _≤_}
+use mathlib.Core.Path.{_≡_, refl}
+use Prim.Native.Nat.{ℕ, zero, suc, _*_, _≤_}
 use mathlib.Core.List.{List, [], _∷_, _++_}
-use mathlib.Core.Bool.{false, true≢false}
 use native.Mathlib.Nat.{le-trans, le-refl, add-le-add, mul-le-mul-left, mul-le-mul-right}
 use native.Mathlib.Decide.{decLe}
 use native.Mathlib.Omega.{arith}
-use borrow.Author.Tests.{le-leb}
-use lib.Dec.{leb}
-use lib.ListN.{length, replicate}
+use lib.ListN.{replicate}
 use Rattle.rules.specs.Limits.{boundScale}
 use Rattle.rules.specs.Tests.{_or_, outside}
-use Rattle.rules.specs.Refusals.{refuse, Judged, _then_}
+use Rattle.rules.specs.Refusals.{Judged, refuse, _then_}
 use Rattle.rules.specs.Lists.{sum, products, scaled, anyOf, anyPair}
-use Rattle.rules.specs.Chain.{Chain, Call, held, badIndex, badRelative, badWeight, badUnits, badOpenLists, badBase, badShares, openInputRefusal, weightRefusal}
-use Rattle.rules.specs.Chain.{openRefusal, openRecord, openAnswer, link, figureAt, broken, callInputRefusal, figureRefusal, callRefusal, callAnswer, after, answers}
-use Rattle.rules.specs.Direct.{Direct, directOpen, numerator, denominator, Within, AllWithin}
+use Rattle.rules.specs.Chain.{Chain, Call, relatives, held, shared, badIndex, badRelative, badWeight, badUnits, badOpenLists, badBase, badShares, openInputRefusal, weightRefusal}
+use Rattle.rules.specs.Chain.{openRefusal, openRecord, openAnswer, link, figureAt, broken, callInputRefusal, figureRefusal, callRefusal, callAnswer, after}
+use Rattle.rules.specs.Events.{Event, eventOf, events}
+use Rattle.rules.specs.Direct.{Direct, exactOpen, exactMoved, directOpen, numerator, denominator, Within, AllWithin}
+use Rattle.rules.proofs.Tests.{never}
+use Rattle.chain_bound.specs.Sentence.{closesIn, directTop, directBottom}
 use Rattle.chain_bound.proofs.Demand3.{demand3}
 
--- a comparison of two written numbers that computing refutes
-never : (a b : ℕ) → leb a b ≡ false → a ≤ b → ⊥
-never a b e h = true≢false (sym (le-leb a b h) ∙ e)
-
--- ---- the listing: "relatives 10,000 each, open at 1,000,000,000, relatives 10,500, 9,800, 12,000, close, …, quarter"
+-- ---- the listing: each relative ten times document 01's ([5]): 100,000 each, open at 1,000,000,000, 105,000, 98,000, 120,000, close, …, quarter
 abbrev ws : List ℕ
 ws = 140000000 ∷ 30000000 ∷ 30000000 ∷ []
 
+abbrev wholes : List ℕ
+wholes = 10000 ∷ 10000 ∷ 10000 ∷ []
+
 abbrev ones : List ℕ
-ones = 10000 ∷ 10000 ∷ 10000 ∷ []
+ones = 100000 ∷ 100000 ∷ 100000 ∷ []
 
 abbrev start : ℕ
 start = 1000000000
 
 abbrev firstClose : Call
-firstClose = Call.close (10500 ∷ 9800 ∷ 12000 ∷ [])
+firstClose = Call.close (105000 ∷ 98000 ∷ 120000 ∷ [])
 
 abbrev lastQuarter : Call
-lastQuarter = Call.quarter (10000 ∷ 10000 ∷ 10100 ∷ [])
+lastQuarter = Call.quarter (100000 ∷ 100000 ∷ 101000 ∷ [])
 
 abbrev listing : List Call
 listing = firstClose ∷ lastQuarter ∷ []
 
 -- the record that the listing's open answers, and the exact weights beside it
 abbrev record₀ : Chain
-record₀ = openRecord ws ones ones start
+record₀ = openRecord (shared ws wholes) ones start
 
 abbrev direct₀ : Direct
-direct₀ = directOpen ws ones ones start
+direct₀ = directOpen ws wholes ones start
 
 -- ---- an open whose two floors both lose nearly 1 of a weight of a million
 abbrev lowBase : List ℕ
@@ -57,75 +56,87 @@ abbrev lowShares : List ℕ
 lowShares = 1 ∷ 10000 ∷ []
 
 abbrev lowUpdates : List ℕ
-lowUpdates = 10010 ∷ 10000 ∷ []
+lowUpdates = 100100 ∷ 100000 ∷ []
 
 abbrev lowDirect : Direct
 lowDirect = directOpen lowBase lowShares lowUpdates start
 
 -- the relatives pull the two units as far apart as they may
 abbrev apart : List ℕ
-apart = 40000 ∷ 2500 ∷ []
+apart = 400000 ∷ 25000 ∷ []
 
 -- ---- a program whose second close answers well and hands back its record untouched: the quarter after it is answered from there again
 abbrev secondClose : Call
-secondClose = Call.close (12000 ∷ 10000 ∷ 10000 ∷ [])
+secondClose = Call.close (120000 ∷ 100000 ∷ 100000 ∷ [])
 
 abbrev record₁ : Chain
 record₁ = after record₀ firstClose
 
--- ---- what the definitions answer
+-- ---- what the calls come to
 pub record Answered : Type 0 where
-  pub listing-opens : openAnswer ws ones ones start ≡ Judged.given record₀
-  pub listing-answers : answers record₀ listing ≡ Judged.given 1062000000 ∷ Judged.given 1063799994 ∷ []
-  -- a relative of 2,499 between the listing's two calls
-  pub listing-refused : answers record₀ (firstClose ∷ Call.close (2499 ∷ 10000 ∷ 10000 ∷ []) ∷ lastQuarter ∷ []) ≡
-      Judged.given 1062000000 ∷ Judged.refused 13 ∷ Judged.given 1063799994 ∷ []
+  pub listing-opens : openAnswer ws wholes ones start ≡ Judged.given record₀
+  pub listing-events : events record₀ listing ≡ Event.answered firstClose 1062000000 ∷ Event.answered lastQuarter 1063799994 ∷ []
+  -- a relative of 24,999 between the listing's two calls
+  pub listing-refused : events record₀ (firstClose ∷ Call.close (24999 ∷ 100000 ∷ 100000 ∷ []) ∷ lastQuarter ∷ []) ≡
+      Event.answered firstClose 1062000000 ∷ Event.refused 13 ∷ Event.answered lastQuarter 1063799994 ∷ []
   -- forty closes answer figures; after them a close and a quarter are refused by 24, not earlier
-  pub forty-closes : answers record₀ (replicate 40 (Call.close ones) ++ Call.close ones ∷ Call.quarter ones ∷ []) ≡
-      replicate 40 (Judged.given 1000000000) ++ Judged.refused 24 ∷ Judged.refused 24 ∷ []
-  pub low-opens : openAnswer lowBase lowShares lowUpdates start ≡ Judged.given (openRecord lowBase lowShares lowUpdates start)
-  pub low-answers : answers (openRecord lowBase lowShares lowUpdates start) (Call.quarter apart ∷ []) ≡ Judged.given 1001198920 ∷ []
-  pub stopped-answers : callAnswer record₀ firstClose ∷ callAnswer record₁ secondClose ∷ callAnswer record₁ lastQuarter ∷ [] ≡
-      Judged.given 1062000000 ∷ Judged.given 1208999990 ∷ Judged.given 1063799994 ∷ []
+  pub forty-closes : events record₀ (replicate 40 (Call.close ones) ++ Call.close ones ∷ Call.quarter ones ∷ []) ≡
+      replicate 40 (Event.answered (Call.close ones) 1000000000) ++ Event.refused 24 ∷ Event.refused 24 ∷ []
+  pub low-opens : openAnswer lowBase lowShares lowUpdates start ≡ Judged.given (openRecord (shared lowBase lowShares) lowUpdates start)
+  pub low-events : events (openRecord (shared lowBase lowShares) lowUpdates start) (Call.quarter apart ∷ []) ≡ Event.answered (Call.quarter apart) 1001198920 ∷ []
+  pub stopped-events : eventOf firstClose (callAnswer record₀ firstClose) ∷ eventOf secondClose (callAnswer record₁ secondClose)
+      ∷ eventOf lastQuarter (callAnswer record₁ lastQuarter) ∷ [] ≡
+      Event.answered firstClose 1062000000 ∷ Event.answered secondClose 1208999990 ∷ Event.answered lastQuarter 1063799994 ∷ []
 
 pub answered : Answered
 unfolding _or_ outside refuse _then_ sum products scaled anyOf anyPair held badIndex badRelative badWeight badUnits badOpenLists badBase badShares
-    openInputRefusal weightRefusal openRefusal openRecord openAnswer link figureAt broken callInputRefusal figureRefusal callRefusal callAnswer after answers
+    openInputRefusal weightRefusal openRefusal openRecord openAnswer link figureAt broken callInputRefusal figureRefusal callRefusal callAnswer after events
 answered =
     record {
       listing-opens = refl;
-      listing-answers = refl;
+      listing-events = refl;
       listing-refused = refl;
       forty-closes = refl;
       low-opens = refl;
-      low-answers = refl;
-      stopped-answers = refl;
+      low-events = refl;
+      stopped-events = refl;
     }
 
 -- what the theorem says of the listing's two figures
-pub listing-within : AllWithin direct₀ listing (Judged.given 1062000000 ∷ Judged.given 1063799994 ∷ [])
-listing-within = rw (answered .listing-answers) at (demand3 ws ones ones start record₀ (answered .listing-opens) listing)
+pub listing-within : AllWithin direct₀ (Event.answered firstClose 1062000000 ∷ Event.answered lastQuarter 1063799994 ∷ [])
+listing-within = rw (answered .listing-events) at (demand3 ws wholes ones start record₀ (answered .listing-opens) listing)
+
+-- "Here D is 1,063,800,000": the last quarter's, spelt out
+abbrev es : List ℕ
+es = products (products ws wholes) ones
+
+abbrev closed : List (List ℕ)
+closed = closesIn (Event.answered firstClose 1062000000 ∷ [])
+
+pub listing-direct : directTop es start closed (relatives lastQuarter) ≡ 1063800000 * directBottom es closed
+unfolding sum products
+listing-direct = refl
 
 -- "A refused call … changes nothing"
 pub refused-changes-nothing : (r : Chain) (call : Call) (calls : List Call) (n : ℕ) → callRefusal r call ≡ suc n →
-    answers r (call ∷ calls) ≡ Judged.refused (suc n) ∷ answers r calls
-unfolding answers callAnswer after
+    events r (call ∷ calls) ≡ Event.refused (suc n) ∷ events r calls
+unfolding events callAnswer after
 refused-changes-nothing r call calls n e = rw e
 
 -- ---- what the bound rules out
--- the bound cannot have m for m + 1: m is 1 after an open, so m for m + 1 is what `Within` says at m = 0
-pub low-needs-m-plus-one : Within 1001198920 (numerator lowDirect apart) (denominator lowDirect) 0 → ⊥
-unfolding sum products directOpen numerator denominator
+-- the bound cannot have m for m + 1
+pub low-needs-m-plus-one : Within 1001198920 (numerator lowDirect apart) (denominator lowDirect apart) (lowDirect .m) → ⊥
+unfolding sum products exactOpen exactMoved directOpen numerator denominator
 low-needs-m-plus-one w = never _ _ refl (w .notBelow)
 
 -- "keeping old weights at close gives 1,063,593,000 in the last line"
-pub old-weights-fall : AllWithin direct₀ listing (Judged.given 1062000000 ∷ Judged.given 1063593000 ∷ []) → ⊥
-unfolding sum products directOpen numerator denominator
+pub old-weights-fall : AllWithin direct₀ (Event.answered firstClose 1062000000 ∷ Event.answered lastQuarter 1063593000 ∷ []) → ⊥
+unfolding sum products exactOpen exactMoved directOpen numerator denominator
 old-weights-fall w = never _ _ refl (w .1 .0 .notBelow)
 
 -- one figure for every call
-pub fixed-figure-falls : (f : ℕ) → AllWithin direct₀ listing (Judged.given f ∷ Judged.given f ∷ []) → ⊥
-unfolding sum products directOpen numerator denominator
+pub fixed-figure-falls : (f : ℕ) → AllWithin direct₀ (Event.answered firstClose f ∷ Event.answered lastQuarter f ∷ []) → ⊥
+unfolding sum products exactOpen exactMoved directOpen numerator denominator
 fixed-figure-falls f w = go (decLe f 1063000000)
   where
     go : Dec (f ≤ 1063000000) → ⊥
@@ -133,15 +144,15 @@ fixed-figure-falls f w = go (decLe f 1063000000)
     go (no p) = let q : 1063000000 ≤ f = omega arith in never _ _ refl (le-trans (mul-le-mul-left boundScale (mul-le-mul-right _ q)) (w .0 .notAbove))
 
 -- the program whose second close does not move its record
-pub stopped-closes-fall : AllWithin direct₀ (firstClose ∷ secondClose ∷ lastQuarter ∷ [])
-    (callAnswer record₀ firstClose ∷ callAnswer record₁ secondClose ∷ callAnswer record₁ lastQuarter ∷ []) → ⊥
-unfolding sum products directOpen numerator denominator
-stopped-closes-fall w = never _ _ refl ((rw (answered .stopped-answers) at w) .1 .1 .0 .notBelow)
+pub stopped-closes-fall : AllWithin direct₀ (eventOf firstClose (callAnswer record₀ firstClose) ∷ eventOf secondClose (callAnswer record₁ secondClose)
+    ∷ eventOf lastQuarter (callAnswer record₁ lastQuarter) ∷ []) → ⊥
+unfolding sum products exactOpen exactMoved directOpen numerator denominator
+stopped-closes-fall w = never _ _ refl ((rw (answered .stopped-events) at w) .1 .1 .0 .notBelow)
 
 -- A chain that only refuses has no figure to bound: it meets demand 3, and falls by demand 2, since its answers are not the defined ones.
-pub only-refusals-within : (d : Direct) (calls : List Call) (n : ℕ) → AllWithin d calls (replicate (length calls) (Judged.refused n))
-only-refusals-within d [] n = tt
-only-refusals-within d (call ∷ calls) n = only-refusals-within d calls n
+pub only-refusals-within : (d : Direct) (times n : ℕ) → AllWithin d (replicate times (Event.refused n))
+only-refusals-within d zero n = tt
+only-refusals-within d (suc times) n = only-refusals-within d times n
 
-pub only-refusals-fall : (n : ℕ) → answers record₀ listing ≡ replicate 2 (Judged.refused n) → ⊥
-only-refusals-fall n e = let z : _≡_ {A = ℕ} 0 1 = cc (answered .listing-answers) in omega arith
+pub only-refusals-fall : (n : ℕ) → events record₀ listing ≡ replicate 2 (Event.refused n) → ⊥
+only-refusals-fall n e = let z : _≡_ {A = ℕ} 0 1 = cc (answered .listing-events) in omega arith

@@ -1,7 +1,9 @@
 pub mod Near
-pub mod Ratio
+pub mod Growth
 pub mod Weights
 pub mod Accepted
+pub mod Panel
 pub mod Carried
 pub mod Demand3
+pub mod Sentence
 pub mod Cases

@@ -1,6 +1,6 @@
 -- What the floors of document 01, "Chain record", lose at most. These numbers are no part of the statement of demand 3: its proof counts
 -- with them. One that is too small is refused by the limit beside it, one that is too large by the bound (must-fail/).
-use Prim.Native.Nat.{ℕ, _+_, _*_}
+use Prim.Native.Nat.{ℕ, zero, suc, _+_, _*_}
 use Rattle.rules.specs.Limits.{lowestRelative, linkScale}
 
 -- Losses are counted in parts of this: to lose one part of x is to lose x / 100,000,000.
@@ -11,7 +11,7 @@ parts = 100000000
 abbrev pub weightLoss : ℕ
 weightLoss = 100
 
--- L is at least 25,000,000, since a relative is at least 2,500 (13).
+-- L is at least 25,000,000, since a relative is at least 25,000 (13).
 abbrev pub leastLink : ℕ
 leastLink = lowestRelative * linkScale
 
@@ -34,9 +34,14 @@ openFloors = 2
 abbrev pub closeFloors : ℕ
 closeFloors = 1
 
--- floors that a weight has had after an open with `opening` floors and so many closes
+-- floors that a panel's weight has had after an open with `opening` floors and so many closes
 abbrev pub floors : ℕ → ℕ → ℕ
 floors opening closes = opening + closeFloors * closes
+
+-- floors that C has had in a panel's weights: those of its last close, whose figure was reckoned from the weights before it
+abbrev pub settledFloors : ℕ → ℕ → ℕ
+settledFloors opening zero = 0
+settledFloors opening (suc closes) = floors opening closes
 
 -- The bound is derived for weights that were floored at most so many times; an open and forty closes stay far below.
 abbrev pub mostFloors : ℕ

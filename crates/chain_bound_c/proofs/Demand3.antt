@@ -1,5 +1,5 @@
 -- Demand 3 for a program in C: whatever vougecress_quarter and vougecress_close calls follow a vougecress_open that answers 0, on the same lent record,
--- every answer is the one that document 01's rules give from the opened record on, and every figure is within the bound of the exact direct index.
+-- each comes to what document 01's rules give from the opened record on, and every figure is within the bound of the exact direct index.
 -- The record that a call leaves in the list is the one that the next call reads there (`Records`); the rest is `chain_bound`.
 use mathlib.Core.Path.{_≡_, refl, sym, ap, subst, _∙_}
 use mathlib.Core.List.{List}
@@ -9,7 +9,8 @@ use denote.Ref.{RefT, now}
 use lib.ListN.{length}
 use borrow.Author.Tests.{le-ltb}
 use Rattle.rules.specs.Refusals.{Judged, refuse, judged, stays, written}
-use Rattle.rules.specs.Chain.{Chain, Call, openRefusal, openRecord, openAnswer, callRefusal, callAnswer, figureOf, relatives, accepted, after, answers}
+use Rattle.rules.specs.Chain.{Chain, Call, shared, openRefusal, openRecord, openAnswer, callRefusal, callAnswer, figureOf, relatives, accepted, after}
+use Rattle.rules.specs.Events.{Event, events}
 use Rattle.rules.specs.Direct.{directOpen, AllWithin}
 use Rattle.rules.proofs.Refusals.{then-none, then-goes, judged-given}
 use Rattle.chain_bound.specs.Trace.{Trace}
@@ -21,7 +22,7 @@ use Rattle.c_chain.specs.Record.{listRefusal, listAnswer, listAfter, openedNumb
 use Rattle.c_chain.proofs.records.vougecress_open.Reads as open-reads
 use Rattle.c_chain.proofs.figures.vougecress_quarter.Reads as quarter-reads
 use Rattle.c_chain.proofs.records.vougecress_close.Reads as close-reads
-use Rattle.chain_bound_c.specs.Lent.{OpenMade, CallsMade, answersIn}
+use Rattle.chain_bound_c.specs.Lent.{OpenMade, CallsMade}
 use Rattle.chain_bound_c.proofs.Records.{Full, read-back, room-again, left-in, full-in, full-open, full-after}
 
 -- None of the three asks anything of its caller: every list of calls can be made.
@@ -67,8 +68,7 @@ quarter-keeps r ps = go (callRefusal r (Call.quarter ps))
     go (suc n) = refl
 
 -- calls on a lent record are a trace of the definitions
-trace : {xs : List ℕ} {calls : List Call} {given : List Figure} → recordPlaces ≤ length xs → CallsMade xs calls given → Trace (recordIn xs) calls (answersIn given)
-unfolding answersIn
+trace : {xs : List ℕ} {calls : List Call} {given : List Event} → recordPlaces ≤ length xs → CallsMade xs calls given → Trace (recordIn xs) calls given
 trace room CallsMade.done = Trace.done
 trace room (CallsMade.quarter {xs = xs} {p = p} {r = r} m rest) =
     let call = Call.quarter (now p) in
@@ -83,14 +83,14 @@ trace room (CallsMade.close {xs = xs} {ys = ys} {p = p} {r = r} m rest) =
 
 -- The theorem: w, g, a and start are what the open was handed, ys is what it left in the lent list.
 pub demand3 : (w g a lent : RefT (List ℕ)) (start : ℕ) (ys : List ℕ) → OpenMade w g a lent start 0 ys →
-    (calls : List Call) (given : List Figure) → CallsMade ys calls given →
-    (answersIn given ≡ answers (openRecord (now w) (now g) (now a) start) calls) × AllWithin (directOpen (now w) (now g) (now a) start) calls (answersIn given)
+    (calls : List Call) (given : List Event) → CallsMade ys calls given →
+    (given ≡ events (openRecord (shared (now w) (now g)) (now a) start) calls) × AllWithin (directOpen (now w) (now g) (now a) start) given
 unfolding openedNumber openedList openAnswer
 demand3 w g a lent start ys made calls given follow =
-    demand3-trace (now w) (now g) (now a) start (recordIn ys) (judged-given _ _ accepts ∙ ap Judged.given (sym holds)) calls (answersIn given) (trace room follow)
+    demand3-trace (now w) (now g) (now a) start (recordIn ys) (judged-given _ _ accepts ∙ ap Judged.given (sym holds)) calls given (trace room follow)
   where
     opened : Chain
-    opened = openRecord (now w) (now g) (now a) start
+    opened = openRecord (shared (now w) (now g)) (now a) start
 
     accepts : openRefusal (now w) (now g) (now a) start ≡ 0
     accepts = then-none _ _ (sym (made .learnt .0)) .1

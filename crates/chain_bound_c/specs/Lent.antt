@@ -7,8 +7,9 @@ use mathlib.Core.List.{List, [], _∷_}
 use contract.Lifetimes.{Lfts}
 use denote.Ref.{RefT, now}
 use denote.Triple.Clauses.{AtExit}
-use Rattle.rules.specs.Refusals.{Judged, judged}
+use Rattle.rules.specs.Refusals.{judged}
 use Rattle.rules.specs.Chain.{Call}
+use Rattle.rules.specs.Events.{Event, eventOf}
 use Rattle.c_values.specs.declared.Figure.{Figure}
 use Rattle.c_chain.proofs.records.vougecress_open as open-contract
 use Rattle.c_chain.proofs.records.vougecress_open.Reads as open-reads
@@ -41,15 +42,14 @@ pub record CloseMade (xs : List ℕ) (p : RefT (List ℕ)) (r : Figure) (ys : Li
   pub leaves : now (end .0) ≡ ys
   pub learnt : close-reads.Learnt lifetimes (lent, (p, tt)) r end
 
--- Calls made one after the other on a lent list, what they ask, and what they answer.
-pub data CallsMade : List ℕ → List Call → List Figure → Type 0 where
-  done : {xs : List ℕ} → CallsMade xs [] []
-  quarter : {xs : List ℕ} {p : RefT (List ℕ)} {r : Figure} {calls : List Call} {later : List Figure} →
-      QuarterMade xs p r → CallsMade xs calls later → CallsMade xs (Call.quarter (now p) ∷ calls) (r ∷ later)
-  close : {xs ys : List ℕ} {p : RefT (List ℕ)} {r : Figure} {calls : List Call} {later : List Figure} →
-      CloseMade xs p r ys → CallsMade ys calls later → CallsMade xs (Call.close (now p) ∷ calls) (r ∷ later)
+-- what a call came to, as a caller reads it: a refusal other than 0, or the figure
+abbrev pub eventIn : Call → Figure → Event
+eventIn call f = eventOf call (judged (f .refusal) (f .figure))
 
--- the answers as a caller reads them: a refusal other than 0, or the figure
-unfoldable pub answersIn : List Figure → List (Judged ℕ)
-answersIn [] = []
-answersIn (f ∷ rest) = judged (f .refusal) (f .figure) ∷ answersIn rest
+-- Calls made one after the other on a lent list, what they ask, and what they came to.
+pub data CallsMade : List ℕ → List Call → List Event → Type 0 where
+  done : {xs : List ℕ} → CallsMade xs [] []
+  quarter : {xs : List ℕ} {p : RefT (List ℕ)} {r : Figure} {calls : List Call} {later : List Event} →
+      QuarterMade xs p r → CallsMade xs calls later → CallsMade xs (Call.quarter (now p) ∷ calls) (eventIn (Call.quarter (now p)) r ∷ later)
+  close : {xs ys : List ℕ} {p : RefT (List ℕ)} {r : Figure} {calls : List Call} {later : List Event} →
+      CloseMade xs p r ys → CallsMade ys calls later → CallsMade xs (Call.close (now p) ∷ calls) (eventIn (Call.close (now p)) r ∷ later)

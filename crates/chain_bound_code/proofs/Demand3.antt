@@ -1,4 +1,4 @@
--- Demand 3 for the code: whatever quarter and close calls follow an open that the code accepts, refused ones among them, every answer is the one that
+-- Demand 3 for the code: whatever quarter and close calls follow an open that the code accepts, refused ones among them, each comes to what
 -- document 01's rules give from the opened record on, and every figure is within the bound of the exact direct index. By the contracts, calls of
 -- the code are a trace of the definitions; the rest is `chain_bound`.
 use mathlib.Core.Path.{_≡_, sym, ap, _∙_}
@@ -8,10 +8,10 @@ use contract.Lifetimes.{Lfts}
 use denote.Ref.{RefT, now}
 use Rattle.rules.specs.Refusals.{Judged}
 use Rattle.rules.specs.Chain as rules
+use Rattle.rules.specs.Events.{Event, events}
 use Rattle.rules.specs.Direct.{directOpen, AllWithin}
 use Rattle.chain.specs.Record.{recordOf}
 use Rattle.chain.specs.declared.Chain.{Chain}
-use Rattle.chain.specs.declared.Answer.{Answer}
 use Rattle.chain.proofs.Chain.quarter.Reads as quarter-reads
 use Rattle.chain.proofs.Chain.close.Reads as close-reads
 use Rattle.chain_open.specs.Opened.{openingBy}
@@ -20,7 +20,7 @@ use Rattle.chain_open.specs.declared.Opened.{Opened}
 use Rattle.chain_open.proofs.«open».Reads as open-reads
 use Rattle.chain_bound.specs.Trace.{Trace}
 use Rattle.chain_bound.proofs.Demand3.{demand3-trace}
-use Rattle.chain_bound_code.specs.Calls.{OpenMade, CallsMade, answersFrom}
+use Rattle.chain_bound_code.specs.Calls.{OpenMade, CallsMade}
 
 -- None of the three asks anything of its caller: every list of calls can be made.
 pub open-asks : (κs : Lfts 3) (w g a : RefT (List ℕ)) (start : ℕ) → open-reads.Asked κs (w, (g, (a, (start, tt))))
@@ -33,19 +33,17 @@ pub close-asks : (κs : Lfts 1) (c : Chain) (p : RefT (List ℕ)) → close-read
 close-asks κs c p = tt
 
 -- calls of the code are a trace of the definitions
-trace : {c : Chain} {calls : List rules.Call} {given : List Answer} → CallsMade c calls given → Trace (recordOf c) calls (answersFrom given)
-unfolding answersFrom
+trace : {c : Chain} {calls : List rules.Call} {given : List Event} → CallsMade c calls given → Trace (recordOf c) calls given
 trace CallsMade.done = Trace.done
 trace (CallsMade.quarter m rest) = Trace.next (record { answers = m .learnt .0; leaves = m .learnt .1 }) (trace rest)
 trace (CallsMade.close m rest) = Trace.next (record { answers = m .learnt .0; leaves = m .learnt .1 }) (trace rest)
 
 -- The theorem: w, g, a and start are what the open was handed, o is what it handed back.
 pub demand3 : (w g a : RefT (List ℕ)) (start : ℕ) (o : Opened) → OpenMade w g a start o → o .answer ≡ Opening.Accepted →
-    (calls : List rules.Call) (given : List Answer) → CallsMade (o .chain) calls given →
-    (answersFrom given ≡ rules.answers (rules.openRecord (now w) (now g) (now a) start) calls)
-    × AllWithin (directOpen (now w) (now g) (now a) start) calls (answersFrom given)
+    (calls : List rules.Call) (given : List Event) → CallsMade (o .chain) calls given →
+    (given ≡ events (rules.openRecord (rules.shared (now w) (now g)) (now a) start) calls) × AllWithin (directOpen (now w) (now g) (now a) start) given
 demand3 w g a start o made accepted calls given follow =
-    demand3-trace (now w) (now g) (now a) start (recordOf (o .chain)) opened calls (answersFrom given) (trace follow)
+    demand3-trace (now w) (now g) (now a) start (recordOf (o .chain)) opened calls given (trace follow)
   where
     opened : rules.openAnswer (now w) (now g) (now a) start ≡ Judged.given (recordOf (o .chain))
     opened = sym (made .learnt .0) ∙ ap (λ (x : Opening). openingBy x (recordOf (o .chain))) accepted

@@ -6,11 +6,10 @@ use mathlib.Core.List.{List, [], _∷_}
 use contract.Lifetimes.{Lfts}
 use denote.Ref.{RefT, now}
 use denote.Triple.Clauses.{AtExit}
-use Rattle.rules.specs.Refusals.{Judged}
 use Rattle.rules.specs.Chain.{Call}
+use Rattle.rules.specs.Events.{Event, eventOf}
 use Rattle.chain.specs.Record.{answerFrom}
 use Rattle.chain.specs.declared.Chain.{Chain}
-use Rattle.chain.specs.declared.Answer.{Answer}
 use Rattle.chain.specs.declared.Answered.{Answered}
 use Rattle.chain.proofs.Chain.quarter as quarter-contract
 use Rattle.chain.proofs.Chain.quarter.Reads as quarter-reads
@@ -38,15 +37,12 @@ pub record CloseMade (c : Chain) (p : RefT (List ℕ)) (r : Answered) : Type 0 w
   pub end : AtExit close-contract.ended lifetimes
   pub learnt : close-reads.Learnt lifetimes (c, (p, tt)) r end
 
--- Calls made one after the other from a record, what they ask, and what they answer.
-pub data CallsMade : Chain → List Call → List Answer → Type 0 where
+-- Calls made one after the other from a record, what they ask, and what they came to.
+pub data CallsMade : Chain → List Call → List Event → Type 0 where
   done : {c : Chain} → CallsMade c [] []
-  quarter : {c : Chain} {p : RefT (List ℕ)} {r : Answered} {calls : List Call} {later : List Answer} →
-      QuarterMade c p r → CallsMade (r .chain) calls later → CallsMade c (Call.quarter (now p) ∷ calls) (r .answer ∷ later)
-  close : {c : Chain} {p : RefT (List ℕ)} {r : Answered} {calls : List Call} {later : List Answer} →
-      CloseMade c p r → CallsMade (r .chain) calls later → CallsMade c (Call.close (now p) ∷ calls) (r .answer ∷ later)
-
--- the answers as document 01 has them
-unfoldable pub answersFrom : List Answer → List (Judged ℕ)
-answersFrom [] = []
-answersFrom (a ∷ rest) = answerFrom a ∷ answersFrom rest
+  quarter : {c : Chain} {p : RefT (List ℕ)} {r : Answered} {calls : List Call} {later : List Event} →
+      QuarterMade c p r → CallsMade (r .chain) calls later →
+      CallsMade c (Call.quarter (now p) ∷ calls) (eventOf (Call.quarter (now p)) (answerFrom (r .answer)) ∷ later)
+  close : {c : Chain} {p : RefT (List ℕ)} {r : Answered} {calls : List Call} {later : List Event} →
+      CloseMade c p r → CallsMade (r .chain) calls later →
+      CallsMade c (Call.close (now p) ∷ calls) (eventOf (Call.close (now p)) (answerFrom (r .answer)) ∷ later)

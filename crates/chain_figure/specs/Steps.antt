@@ -12,11 +12,6 @@ use Rattle.rules.specs.Chain.{Chain, badRelative, callInputRefusal, figureOf, f
 use Rattle.chain_figure.specs.declared.Reckoned.{Reckoned}
 use Rattle.chain_figure.specs.declared.Reckoned.the-variants.{Refused, Figure}
 
--- a record of these places and numbers
-abbrev pub recordWith : List ℕ → ℕ → ℕ → ℕ → Chain
-recordWith places units index closes =
-    record { weights = places; units = units; index = index; closes = closes }
-
 -- F, and 23 or 24 where they apply to it
 pub record Reckoning : Type 0 where
   pub figure : ℕ

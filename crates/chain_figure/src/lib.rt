@@ -1,11 +1,11 @@
 // Document 01, "Chain record": what quarter and close share, the refusals that come first and last, and the figure. The record's places are lent,
 // so that no call copies them.
+use chain_record::Numbers;
+use chain_record::is_broken;
+use chain_record::is_spent;
 use chain_relative::Relative;
 use limits::LINK_SCALE;
-use limits::MOST_CLOSES;
-use limits::MOST_WEIGHT;
 use limits::bad_index;
-use limits::bad_units;
 use refusals::Refusal;
 use refusals::Verdict;
 ghost use mathlib.Core.Path.{_≡_};
@@ -14,42 +14,19 @@ ghost use lib.ListN.{length, take};
 ghost use Rattle.refusals.specs.Number.{verdictOf};
 ghost use Rattle.rules.specs.Limits.{mostPanel, mostWeight, highestRelative, linkScale};
 ghost use Rattle.rules.specs.Refusals.{_then_};
-ghost use Rattle.rules.specs.Chain.{broken, callInputRefusal, weightRefusal, figureAt};
-ghost use Rattle.chain_figure.specs.Steps.{recordWith, Reckonable, reckonedOf, reckonedFrom};
-
-// 19: whether the record breaks a limit. The number of units is judged before the places are looked at.
-fn is_broken(places: &[u64], units: usize, index: u64, closes: u64) -> bool
-    requires { ⌜ length (now places) ≡ mostPanel ⌝ }
-    ensures { λ r. ⌜ r ≡ broken (recordWith (now (places .entry)) units index closes) ⌝ }
-{
-    if bad_units(units) {
-        return true;
-    }
-    if MOST_CLOSES < closes {
-        return true;
-    }
-    if bad_index(index) {
-        return true;
-    }
-    let held = &places[..units];
-    if chain_sums::any_low(held, held) {
-        return true;
-    }
-    let sum = chain_sums::capped_sum(held);
-    if sum == 0 {
-        return true;
-    }
-    MOST_WEIGHT < sum
-}
+ghost use Rattle.rules.specs.Chain.{callInputRefusal, weightRefusal, figureAt};
+ghost use Rattle.chain_record.specs.Record.{recordWith};
+ghost use Rattle.chain_figure.specs.Steps.{Reckonable, reckonedOf, reckonedFrom};
 
 // 19, 9 and 13.
-fn judge_call(places: &[u64], units: usize, index: u64, closes: u64, p: &[u32]) -> Verdict
+fn judge_call(places: &[u64], numbers: Numbers, p: &[u32]) -> Verdict
     requires { ⌜ length (now places) ≡ mostPanel ⌝ }
-    ensures { λ r. ⌜ verdictOf r ≡ callInputRefusal (recordWith (now (places .entry)) units index closes) (now (p .entry)) ⌝ }
+    ensures { λ r. ⌜ verdictOf r ≡ callInputRefusal (recordWith (now (places .entry)) numbers) (now (p .entry)) ⌝ }
 {
-    if is_broken(places, units, index, closes) {
+    if is_broken(places, numbers) {
         return Verdict::Refused(Refusal::State);
     }
+    let units = numbers.units;
     if p.len() != units {
         return Verdict::Refused(Refusal::UnitLists);
     }
@@ -59,7 +36,7 @@ fn judge_call(places: &[u64], units: usize, index: u64, closes: u64, p: &[u32]) 
     Verdict::Accepted
 }
 
-// L = floor(N × 10,000 / V) by quotient and remainder, since N × 10,000 need not fit.
+// L = floor(N × 1,000 / V) by quotient and remainder, since N × 1,000 need not fit.
 fn link(n: u64, v: u64) -> u64
     requires { ⌜ (0 < v) × (v ≤ mostWeight) × (n ≤ highestRelative * v) ⌝ }
     ensures { λ r. ⌜ r ≡ n * linkScale / v ⌝ }
@@ -85,17 +62,17 @@ pub enum Reckoned {
     Figure(u64, Verdict),
 }
 
-pub fn reckon(places: &[u64], units: usize, index: u64, closes: u64, p: &[u32]) -> Reckoned
+pub fn reckon(places: &[u64], numbers: Numbers, p: &[u32]) -> Reckoned
     requires { ⌜ length (now places) ≡ mostPanel ⌝ }
-    ensures { λ r. ⌜ reckonedFrom r ≡ reckonedOf (recordWith (now (places .entry)) units index closes) (now (p .entry)) ⌝ }
+    ensures { λ r. ⌜ reckonedFrom r ≡ reckonedOf (recordWith (now (places .entry)) numbers) (now (p .entry)) ⌝ }
 {
-    let input = judge_call(places, units, index, closes, p);
+    let input = judge_call(places, numbers, p);
     match input {
         Verdict::Refused(why) => Reckoned::Refused(why),
         Verdict::Accepted => {
-            let f = figure(places, units, index, p);
+            let f = figure(places, numbers.units, numbers.index, p);
             let out = bad_index(f);
-            let spent = MOST_CLOSES <= closes;
+            let spent = is_spent(numbers);
             if out {
                 return Reckoned::Figure(f, Verdict::Refused(Refusal::FigureRange));
             }

@@ -4,11 +4,13 @@ use limits::MOST_PANEL;
 use refusals::Refusal;
 use refusals::Verdict;
 ghost use mathlib.Core.Path.{_≡_};
-ghost use lib.ListN.{replicate};
+ghost use Prim.Native.Nat.{_≤_};
+ghost use lib.ListN.{length};
 ghost use Rattle.rules.specs.Limits.{mostPanel};
 ghost use Rattle.rules.specs.Chain.{openAnswer};
 ghost use Rattle.chain.specs.Record.{recordOf};
-ghost use Rattle.chain_open.specs.Opened.{openingOf, openedRecord, refusedOpening};
+ghost use Rattle.chain_open_weights.specs.Weighable.{Weighable};
+ghost use Rattle.chain_open.specs.Opened.{openingOf, openedRecord, weighedAnswer, weighedRecord, refusedOpening};
 
 pub enum Opening {
     Accepted,
@@ -21,25 +23,34 @@ pub struct Opened {
     pub answer: Opening,
 }
 
-// A record's places, all 0.
-fn blank() -> [u64; MOST_PANEL]
-    ensures { λ r. ⌜ r ≡ replicate mostPanel 0 ⌝ }
-{
-    [0u64; MOST_PANEL]
-}
-
 fn refused(why: Refusal) -> Opened
     ensures { λ r. ⌜ r ≡ refusedOpening why ⌝ }
 {
-    let chain = Chain {
-        weights: blank(),
-        units: 0,
-        index: 0,
-        closes: 0,
-    };
+    let chain = Chain::empty();
     Opened {
         chain: chain,
         answer: Opening::Refused(why),
+    }
+}
+
+// The opening from the u, whichever way to the u was taken: 21 and 22, or else the record.
+fn open_from(marks: &[u32], u: &[u64], a: &[u32], start: u64) -> Opened
+    requires { ⌜ Weighable (now marks) (now u) (now a) × (length (now u) ≤ mostPanel) ⌝ }
+    ensures { λ r. ⌜ openingOf r ≡ weighedAnswer (now (marks .entry)) (now (u .entry)) (now (a .entry)) start ⌝ }
+    ensures { λ r. ⌜ recordOf (r .chain) ≡ weighedRecord (now (marks .entry)) (now (u .entry)) (now (a .entry)) start ⌝ }
+{
+    let n = u.len();
+    let mut places = [0u64; MOST_PANEL];
+    let last = chain_open_weights::weigh(marks, u, a, &mut places[..n]);
+    match last {
+        Verdict::Refused(why) => refused(why),
+        Verdict::Accepted => {
+            let chain = chain::of(places, chain_record::opened(n, start));
+            Opened {
+                chain: chain,
+                answer: Opening::Accepted,
+            }
+        }
     }
 }
 
@@ -52,24 +63,9 @@ pub fn open(w: &[u64], g: &[u32], a: &[u32], start: u64) -> Opened
         Verdict::Refused(why) => refused(why),
         Verdict::Accepted => {
             let n = w.len();
-            let mut shared = blank();
-            let mut places = blank();
-            let last = chain_open_weights::weigh(w, g, a, &mut shared[..n], &mut places[..n]);
-            match last {
-                Verdict::Refused(why) => refused(why),
-                Verdict::Accepted => {
-                    let chain = Chain {
-                        weights: places,
-                        units: n,
-                        index: start,
-                        closes: 0,
-                    };
-                    Opened {
-                        chain: chain,
-                        answer: Opening::Accepted,
-                    }
-                }
-            }
+            let mut u = [0u64; MOST_PANEL];
+            chain_open_weights::share_into(w, g, &mut u[..n]);
+            open_from(g, &u[..n], a, start)
         }
     }
 }

@@ -1,4 +1,5 @@
 // Document 01, "Job stream": what each command does to the job; here the draw of a panel from the frame so far.
+use chain::Kind;
 use draw::Answer;
 use job_state::Job;
 use job_state::Saying;
@@ -55,7 +56,7 @@ pub fn step(job: Job, command: Command) -> Stepped
         Command::Share { place, share } => job_given::on_share(job, place, share),
         Command::Relative { place, relative } => job_given::on_relative(job, place, relative),
         Command::Open { start } => job_calls::on_open(job, start),
-        Command::Quarter => job_calls::on_quarter(job),
-        Command::Close => job_calls::on_close(job),
+        Command::Quarter => job_calls::on_call(job, Kind::Quarter),
+        Command::Close => job_calls::on_call(job, Kind::Close),
     }
 }

@@ -1,5 +1,6 @@
 // Document 01, "Job stream": the commands on the chain, open, quarter and close; refusal 19.
 use chain::Answer;
+use chain::Kind;
 use chain_open::Opening;
 use job_state::Job;
 use job_state::Saying;
@@ -9,8 +10,10 @@ use job_state::with_chain;
 use job_state::within;
 use limits::MOST_PANEL;
 use refusals::Refusal;
+ghost use mathlib.Core.Path.{_≡_};
 ghost use Rattle.rules.specs.Stream.{Command};
 ghost use Rattle.job_state.specs.Steps.{Steps};
+ghost use Rattle.job_calls.specs.Commands.{commandBy, sayingOf};
 
 // 5: a new chain from the panel, its shares and the pending relatives.
 pub fn on_open(job: Job, start: u64) -> Stepped
@@ -34,9 +37,19 @@ pub fn on_open(job: Job, start: u64) -> Stepped
     }
 }
 
-// 6: the figure of a quarter.
-pub fn on_quarter(job: Job) -> Stepped
-    ensures { λ r. ⌜ Steps job Command.quarter r ⌝ }
+// What is said with the figure of a call.
+fn figure_said(kind: Kind, f: u64) -> Saying
+    ensures { λ r. ⌜ r ≡ sayingOf kind f ⌝ }
+{
+    match kind {
+        Kind::Quarter => Saying::Quarter(f),
+        Kind::Close => Saying::Close(f),
+    }
+}
+
+// 6 and 7: the figure of a quarter, or of a close, which moves the chain.
+pub fn on_call(job: Job, kind: Kind) -> Stepped
+    ensures { λ r. ⌜ Steps job (commandBy kind) r ⌝ }
 {
     let has_chain = job.is_open;
     if !has_chain {
@@ -45,35 +58,13 @@ pub fn on_quarter(job: Job) -> Stepped
     let size = within(job.size, MOST_PANEL);
     let pending = job.pending;
     let chain = job.chain;
-    let answered = chain.quarter(&pending[..size]);
+    let answered = chain.call(kind, &pending[..size]);
     let answer = answered.answer;
     match answer {
         Answer::Refused(why) => said(job, Saying::Refused(why)),
         Answer::Figure(f) => {
             let next = answered.chain;
-            said(with_chain(job, next), Saying::Quarter(f))
-        }
-    }
-}
-
-// 7: the figure of a close, which moves the chain.
-pub fn on_close(job: Job) -> Stepped
-    ensures { λ r. ⌜ Steps job Command.close r ⌝ }
-{
-    let is_open = job.is_open;
-    if !is_open {
-        return said(job, Saying::Refused(Refusal::State));
-    }
-    let size = within(job.size, MOST_PANEL);
-    let pending = job.pending;
-    let chain = job.chain;
-    let answered = chain.close(&pending[..size]);
-    let answer = answered.answer;
-    match answer {
-        Answer::Refused(why) => said(job, Saying::Refused(why)),
-        Answer::Figure(f) => {
-            let moved = answered.chain;
-            said(with_chain(job, moved), Saying::Close(f))
+            said(with_chain(job, next), figure_said(kind, f))
         }
     }
 }

@@ -10,9 +10,10 @@ use Rattle.rules.specs.Limits.{mostPanel, shareScale}
 use Rattle.rules.specs.Chain as rules-chain
 use Rattle.rules.specs.Refusals.{written}
 use Rattle.rules.specs.Job.{snoc, withUnit, withPanel, withShare, withRelative, withChain}
+use Rattle.chain.specs.Record.{chainFrom}
 use Rattle.job_state.specs.declared.Job.{Job}
 use Rattle.job_state.specs.State.{jobOf}
-use Rattle.job_state.specs.Steps.{each, chainFrom, unitHeld, panelHeld, shareHeld, relativeHeld, chainHeld}
+use Rattle.job_state.specs.Steps.{each, unitHeld, panelHeld, shareHeld, relativeHeld, chainHeld}
 use Rattle.job_state.proofs.FirstPlaces.{named, filled-front}
 
 -- one more place is named, and holds what was stored there

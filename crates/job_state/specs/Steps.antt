@@ -9,12 +9,12 @@ use Rattle.rules.specs.Limits.{mostHeld, mostPanel, shareScale}
 use Rattle.rules.specs.Refusals.{Judged, written}
 use Rattle.rules.specs.TakeAll.{takeAllGroup}
 use Rattle.rules.specs.Draw.{panelWeights}
-use Rattle.rules.specs.Chain.{Call, openRecord, accepted}
-use Rattle.rules.specs.Chain as rules-chain
+use Rattle.rules.specs.Chain.{Call, shared, openRecord, accepted}
 use Rattle.rules.specs.Stream.{Command}
 use Rattle.rules.specs.Job as rules
+use Rattle.chain_record.specs.Record.{emptyRecord}
 use Rattle.chain.specs.declared.Chain.{Chain}
-use Rattle.chain.specs.Record.{recordOf}
+use Rattle.chain.specs.Record.{recordOf, chainFrom}
 use Rattle.job_state.specs.declared.Job.{Job}
 use Rattle.job_state.specs.declared.Saying.{Saying}
 use Rattle.job_state.specs.declared.Stepped.{Stepped}
@@ -23,10 +23,6 @@ use Rattle.job_state.specs.State.{jobOf, stepFrom}
 -- one number in each place of a panel
 abbrev pub each : ℕ → List ℕ
 each x = replicate mostPanel x
-
--- the code's chain record of a record of `rules`
-abbrev pub chainFrom : rules-chain.Chain → Chain
-chainFrom r = record { weights = r .weights; units = r .units; index = r .index; closes = r .closes }
 
 -- ---- the job that an accepted command leaves
 -- before the first command
@@ -41,7 +37,7 @@ jobAtStart =
       shares = each 0;
       pending = each 0;
       size = 0;
-      chain = record { weights = each 0; units = 0; index = 0; closes = 0 };
+      chain = chainFrom emptyRecord;
       is_open = false;
     }
 
@@ -133,7 +129,7 @@ panelDrawn j z start =
 
 -- after an open, a quarter or a close: the chain that it leaves
 abbrev pub chainOpened : Job → ℕ → Job
-chainOpened j start = chainHeld j (chainFrom (openRecord (jobOf j .panel) (jobOf j .shares) (jobOf j .pending) start))
+chainOpened j start = chainHeld j (chainFrom (openRecord (shared (jobOf j .panel) (jobOf j .shares)) (jobOf j .pending) start))
 
 abbrev pub chainCalled : Job → Call → Job
 chainCalled j call = chainHeld j (chainFrom (accepted (recordOf (j .chain)) call))

@@ -100,13 +100,7 @@ pub fn empty() -> Job
     let panel = [0u64; MOST_PANEL];
     let shares = [0u32; MOST_PANEL];
     let pending = [0u32; MOST_PANEL];
-    let weights = [0u64; MOST_PANEL];
-    let chain = Chain {
-        weights: weights,
-        units: 0,
-        index: 0,
-        closes: 0,
-    };
+    let chain = Chain::empty();
     Job {
         numbers: numbers,
         turnovers: turnovers,

@@ -31,13 +31,13 @@ pub const STEP_LENGTH: u32 = 1000;
 pub const SHARE_SCALE: u64 = 10_000;
 
 // L is a mean relative times this.
-pub const LINK_SCALE: u64 = 10_000;
+pub const LINK_SCALE: u64 = 1_000;
 
 // The least u or v of a present unit.
 pub const LEAST_WEIGHT: u64 = 1_000_000;
 
 // The sum of W, and of v.
-pub const MOST_WEIGHT: u64 = 100_000_000_000_000;
+pub const MOST_WEIGHT: u64 = 10_000_000_000_000;
 
 // An index; 100 is 1,000,000,000.
 pub const LOWEST_INDEX: u64 = 100_000_000;
@@ -68,6 +68,45 @@ pub const STATE_ADDEND: u64 = 12_345;
 
 // A turnover of a test load is at most this.
 pub const TURNOVER_RANGE: u64 = 10_000_000;
+
+// ---- sample over sectors
+// A sector's strength.
+pub const LOWEST_STRENGTH: u64 = 1;
+
+pub const HIGHEST_STRENGTH: u64 = 1_000_000_000;
+
+pub const MOST_INTERVIEWS: u64 = 6_400;
+
+// ---- registers as comma lines
+// Digits of a field.
+pub const MOST_FIELD: usize = 20;
+
+// A number of 32 bits, and one of 64.
+pub const MOST_SHORT: u64 = 4_294_967_295;
+
+pub const MOST_LONG: u64 = 18_446_744_073_709_551_615;
+
+// ---- quarterly sheet
+// Columns of a name, and of a figure and a change.
+pub const NAME_COLUMNS: usize = 20;
+
+pub const NUMBER_COLUMNS: usize = 14;
+
+// Bytes of a line: its 48 columns and a line feed.
+pub const LINE_BYTES: usize = 49;
+
+// The printable bytes.
+pub const LOWEST_PRINTABLE: u8 = 32;
+
+pub const HIGHEST_PRINTABLE: u8 = 126;
+
+// Hundredths of a percent in 1.
+pub const CHANGE_SCALE: u64 = 10_000;
+
+// Decimals of a figure in index points, and of a change in percent.
+pub const FIGURE_DECIMALS: usize = 7;
+
+pub const CHANGE_DECIMALS: usize = 2;
 
 // The range of an index, which 12, 14, 19 and 23 share.
 pub fn bad_index(c: u64) -> bool

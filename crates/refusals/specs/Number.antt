@@ -1,7 +1,7 @@
 -- Document 01, "Refusals caused by the input" and "… by the state": the number of each case.
 use Prim.Native.Nat.{ℕ}
 use Rattle.refusals.specs.declared.Refusal.{Refusal}
-use Rattle.refusals.specs.declared.Refusal.the-variants.{FrameLists, UnitNumbers, Turnovers, RandomNumbers, PanelSize, ResultBuffer, OldPanel, NoStep, UnitLists, BaseWeights, Shares, StartIndex, Relatives, Sectors, StreamLength, UnknownCommand, CutShort, Place, State, FrameFull, LowWeight, WeightSum, FigureRange, ClosesSpent, TestLoad}
+use Rattle.refusals.specs.declared.Refusal.the-variants.{FrameLists, UnitNumbers, Turnovers, RandomNumbers, PanelSize, ResultBuffer, OldPanel, NoStep, UnitLists, BaseWeights, Shares, StartIndex, Relatives, Sectors, StreamLength, UnknownCommand, CutShort, Place, State, FrameFull, LowWeight, WeightSum, FigureRange, ClosesSpent, TestLoad, Sample, RegisterLine, RegisterRoom, SheetLine, Writing}
 use Rattle.refusals.specs.declared.Verdict.{Verdict}
 use Rattle.refusals.specs.declared.Verdict.the-variants.{Accepted, Refused}
 
@@ -24,7 +24,7 @@ numberOf OldPanel = 7
 numberOf NoStep = 8
 -- "unit lists empty, over 100, or unequal to each other or to the record"
 numberOf UnitLists = 9
--- "a W of 0, or their sum over 10^14"
+-- "a W of 0, or their sum over 10^13" (document 02, [5])
 numberOf BaseWeights = 10
 -- "a share over 10,000, or all 0"
 numberOf Shares = 11
@@ -48,7 +48,7 @@ numberOf State = 19
 numberOf FrameFull = 20
 -- "a present u or v below 1,000,000, at open or after close"
 numberOf LowWeight = 21
--- "sum of v over 10^14, likewise"
+-- "sum of v over 10^13, likewise" (document 02, [5])
 numberOf WeightSum = 22
 -- "F outside 10^8 to 10^10"
 numberOf FigureRange = 23
@@ -56,6 +56,16 @@ numberOf FigureRange = 23
 numberOf ClosesSpent = 24
 -- document 02, [13]: "the start is 2^31 or more, or the count is 0 or over 16,384, or a buffer is shorter"
 numberOf TestLoad = 33
+-- document 02, [10]: "the lists are unequal, empty or over 64, a strength is out of range, T is over 6,400 or the minima together exceed T"
+numberOf Sample = 31
+-- document 02, [14]: "a line is not of this form"
+numberOf RegisterLine = 34
+-- "there are more lines than the list holds"
+numberOf RegisterRoom = 35
+-- document 02, [12]: "a name is otherwise, a figure is outside 10^8 to 10^10 or the buffer is shorter than 49 bytes"
+numberOf SheetLine = 32
+-- document 02, [4]: "lists given are unequal, or the buffer is shorter than the stream needs"
+numberOf Writing = 27
 
 -- 0 where no refusal applies
 abbrev pub verdictOf : Verdict → ℕ

@@ -28,6 +28,11 @@ pub enum Refusal {
     FigureRange,
     ClosesSpent,
     TestLoad,
+    Sample,
+    RegisterLine,
+    RegisterRoom,
+    SheetLine,
+    Writing,
 }
 
 // What a group of tests finds: the first refusal that applies, or none.
@@ -67,6 +72,11 @@ impl Refusal {
             Refusal::FigureRange => 23,
             Refusal::ClosesSpent => 24,
             Refusal::TestLoad => 33,
+            Refusal::Sample => 31,
+            Refusal::RegisterLine => 34,
+            Refusal::RegisterRoom => 35,
+            Refusal::SheetLine => 32,
+            Refusal::Writing => 27,
         }
     }
 }

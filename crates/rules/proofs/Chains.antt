@@ -80,6 +80,7 @@ sound r e =
 
 -- nor do 9 and 13
 pub record Admitted (r : Chain) (ps : List ℕ) : Type 0 where
+  pub whole : broken r ≡ false
   pub sound : Sound r
   pub long : length ps ≡ r .units
   pub relatives : anyPair badRelative (held r) ps ≡ false
@@ -89,8 +90,10 @@ unfolding callInputRefusal
 admitted r ps e =
     let state : _ = then-none _ _ e in
     let lists : _ = then-none _ _ (state .1) in
+    let whole : _ = refuse-none _ 18 (state .0) in
     record {
-      sound = sound r (refuse-none _ 18 (state .0));
+      whole = whole;
+      sound = sound r whole;
       long = eqb-true _ _ (not-false _ (refuse-none _ 8 (lists .0)));
       relatives = refuse-none _ 12 (lists .1);
     }

@@ -13,6 +13,7 @@ use lib.Seq.{drop-cons, take-all, take-take, take-at, getD-at, getD-take, getD-s
 use borrow.Author.Count.{below-more}
 use borrow.Author.Tests.{ltb-true, lt-ltb, le-ltb, eq-eqb, ne-eqb}
 use Rattle.rules.specs.Tests.{_or_, _and_}
+use Rattle.rules.specs.Refusals.{written}
 use Rattle.rules.specs.Lists.{sum, products, scaled, anyOf, anyPair, risesFrom, rising, elem}
 use Rattle.rules.proofs.Tests.{and-left, and-right, and-true, or-on, or-off, or-false, by-order}
 
@@ -209,6 +210,18 @@ writtenTo-next (suc i) (x ∷ news) (y ∷ buffer) h k = ap (λ (l : List ℕ). 
 -- all of them: what `written` says where nothing refuses
 pub writtenTo-all : (news buffer : List ℕ) → writtenTo (length news) news buffer ≡ news ++ drop (length news) buffer
 writtenTo-all news buffer = ap (λ (l : List ℕ). l ++ drop (length news) buffer) (take-all (length news) news (le-of-eq refl))
+
+-- A pass that lays `count` news over a buffer, one a turn: what the list is after i turns gives its length, the next place, and the end.
+pub laid-length : (i count : ℕ) (news buffer now : List ℕ) → now ≡ writtenTo i news buffer → length news ≡ count → i ≤ count → count ≤ length buffer → length now ≡ length buffer
+laid-length i count news buffer now e l h k = ap length e ∙ length-writtenTo i news buffer (omega arith) (omega arith)
+
+pub laid-next : (i count x : ℕ) (news buffer now : List ℕ) → now ≡ writtenTo i news buffer → length news ≡ count → i < count → count ≤ length buffer → x ≡ getD news i 0 → set now i x ≡ writtenTo (i + 1) news buffer
+laid-next i count x news buffer now e l h k v = rw (e, v, add-one) (writtenTo-next i news buffer (omega arith) (omega arith))
+
+pub laid-end : (i count : ℕ) (news buffer now : List ℕ) → now ≡ writtenTo i news buffer → length news ≡ count → i ≤ count → count ≤ i → now ≡ written 0 news buffer
+laid-end i count news buffer now e l h k =
+    let last : i ≡ length news = omega arith in
+    e ∙ ap (λ (n : ℕ). writtenTo n news buffer) last ∙ writtenTo-all news buffer
 
 -- ---- sums of products with numbers within a limit
 -- each place of a list is within the limit, where a test that fails says so of a number

@@ -1,7 +1,7 @@
 -- Document 01, "Chain record", refusals 9 to 13, 19, 21 to 24; 001, formulas 18 and 20.
 use Prim.Native.Nat.{ℕ, zero, suc, _-_, _*_, _/_}
 use mathlib.Core.Bool.{Bool, false, not}
-use mathlib.Core.List.{List, [], _∷_, _++_}
+use mathlib.Core.List.{List, _++_}
 use lib.ListN.{length, take, drop, replicate}
 use lib.Dec.{leb, ltb, eqb}
 use Rattle.rules.specs.Limits.{shareScale, relativeScale, lowestRelative, highestRelative, linkScale, leastWeight, mostWeight, lowestIndex, highestIndex, mostPanel, mostCloses}
@@ -43,15 +43,15 @@ badUnits n = eqb n 0 or ltb mostPanel n
 abbrev pub shared : List ℕ → List ℕ → List ℕ
 shared ws gs = scaled shareScale ws gs
 
--- "the opening weight is v = floor(u × a / 10,000)"
-abbrev pub opening : List ℕ → List ℕ → List ℕ → List ℕ
-opening ws gs rs = scaled relativeScale (shared ws gs) rs
+-- "the opening weight is v = floor(u × a / 100,000)" ([5]), from the u
+abbrev pub opening : List ℕ → List ℕ → List ℕ
+opening us rs = scaled relativeScale us rs
 
 -- 9: "… or unequal to each other"
 unfoldable pub badOpenLists : List ℕ → List ℕ → List ℕ → Bool
 badOpenLists ws gs rs = badUnits (length ws) or not (eqb (length gs) (length ws)) or not (eqb (length rs) (length ws))
 
--- 10: "a W of 0, or their sum over 10^14"
+-- 10: "a W of 0, or their sum over 10^13" ([5])
 unfoldable pub badBase : List ℕ → Bool
 badBase ws = anyOf (λ w. eqb w 0) ws or ltb mostWeight (sum ws)
 
@@ -74,25 +74,25 @@ weightRefusal marks vs =
     refuse (anyPair badWeight marks vs) 21
     then refuse (ltb mostWeight (sum vs)) 22
 
--- at the open 21 judges the u as well
+-- at the open 21 judges the u as well; a mark of 0 is an absent unit
 abbrev pub openWeightRefusal : List ℕ → List ℕ → List ℕ → ℕ
-openWeightRefusal ws gs rs = refuse (anyPair badWeight gs (shared ws gs)) 21 then weightRefusal gs (opening ws gs rs)
+openWeightRefusal marks us rs = refuse (anyPair badWeight marks us) 21 then weightRefusal marks (opening us rs)
 
 unfoldable pub openRefusal : List ℕ → List ℕ → List ℕ → ℕ → ℕ
-openRefusal ws gs rs start = openInputRefusal ws gs rs start then openWeightRefusal ws gs rs
+openRefusal ws gs rs start = openInputRefusal ws gs rs start then openWeightRefusal gs (shared ws gs) rs
 
--- the record of an accepted open: places beyond the units hold 0
-unfoldable pub openRecord : List ℕ → List ℕ → List ℕ → ℕ → Chain
-openRecord ws gs rs start =
+-- the record of an accepted open, from the u: places beyond the units hold 0
+unfoldable pub openRecord : List ℕ → List ℕ → ℕ → Chain
+openRecord us rs start =
     record {
-      weights = opening ws gs rs ++ replicate (mostPanel - length ws) 0;
-      units = length ws;
+      weights = opening us rs ++ replicate (mostPanel - length us) 0;
+      units = length us;
       index = start;
       closes = 0;
     }
 
 unfoldable pub openAnswer : List ℕ → List ℕ → List ℕ → ℕ → Judged Chain
-openAnswer ws gs rs start = judged (openRefusal ws gs rs start) (openRecord ws gs rs start)
+openAnswer ws gs rs start = judged (openRefusal ws gs rs start) (openRecord (shared ws gs) rs start)
 
 -- ---- quarter and close, each with one relative p a unit
 pub data Call : Type 0 where
@@ -103,7 +103,7 @@ abbrev pub relatives : Call → List ℕ
 relatives (quarter ps) = ps
 relatives (close ps) = ps
 
--- "V is the sum of v, N the sum of v × p. L = floor(N × 10,000 / V)"
+-- "V is the sum of v, N the sum of v × p. L = floor(N × 1,000 / V)" ([5])
 unfoldable pub link : List ℕ → List ℕ → ℕ
 link vs ps = sum (products vs ps) * linkScale / sum vs
 
@@ -114,7 +114,7 @@ figureAt c vs ps = c * link vs ps / (linkScale * relativeScale)
 abbrev pub figureOf : Chain → List ℕ → ℕ
 figureOf r ps = figureAt (r .index) (held r) ps
 
--- "each v to floor(v × p / 10,000)" (formula 20)
+-- "each v to floor(v × p / 100,000)" (formula 20, [5])
 abbrev pub moved : Chain → List ℕ → List ℕ
 moved r ps = scaled relativeScale (held r) ps
 
@@ -140,9 +140,13 @@ abbrev pub newWeightRefusal : Chain → Call → ℕ
 newWeightRefusal r (quarter ps) = 0
 newWeightRefusal r (close ps) = weightRefusal (held r) (moved r ps)
 
--- 23, "F outside 10^8 to 10^10", and 24, "forty closes accepted (quarter too)"
+-- 24: "forty closes accepted (quarter too)"
+abbrev pub spent : Chain → Bool
+spent r = leb mostCloses (r .closes)
+
+-- 23, "F outside 10^8 to 10^10", and 24
 unfoldable pub figureRefusal : Chain → List ℕ → ℕ
-figureRefusal r ps = refuse (badIndex (figureOf r ps)) 23 then refuse (leb mostCloses (r .closes)) 24
+figureRefusal r ps = refuse (badIndex (figureOf r ps)) 23 then refuse (spent r) 24
 
 unfoldable pub callRefusal : Chain → Call → ℕ
 callRefusal r call =
@@ -154,7 +158,7 @@ callRefusal r call =
 unfoldable pub callAnswer : Chain → Call → Judged ℕ
 callAnswer r call = judged (callRefusal r call) (figureOf r (relatives call))
 
--- Quarter: "the record is unchanged". Close: "sets C to F, each v to floor(v × p / 10,000), and counts one close"; other places stay.
+-- Quarter: "the record is unchanged". Close: "sets C to F, each v to floor(v × p / 100,000), and counts one close"; other places stay.
 abbrev pub accepted : Chain → Call → Chain
 accepted r (quarter ps) = r
 accepted r (close ps) =
@@ -168,8 +172,3 @@ accepted r (close ps) =
 -- the record after a call
 unfoldable pub after : Chain → Call → Chain
 after r call = stays (callRefusal r call) r (accepted r call)
-
--- the answers to a list of calls, each handed the record that the call before it left
-unfoldable pub answers : Chain → List Call → List (Judged ℕ)
-answers r [] = []
-answers r (call ∷ calls) = callAnswer r call ∷ answers (after r call) calls

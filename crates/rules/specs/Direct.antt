@@ -1,63 +1,85 @@
--- Document 01, demand 3: the exact direct index D, reckoned beside the chain and never from its record.
+-- Document 01, demand 3: the exact direct index D, "reckoned beside them from the arguments of the open, the relatives of the calls and which calls
+-- document 01 refuses, never from the chain record".
 use Prim.Native.Nat.{ℕ, suc, _+_, _*_, _≤_, _<_}
 use mathlib.Core.List.{List, [], _∷_}
 use Rattle.rules.specs.Limits.{shareScale, relativeScale, boundScale, boundFactor}
 use Rattle.rules.specs.Lists.{sum, products}
-use Rattle.rules.specs.Refusals.{Judged}
 use Rattle.rules.specs.Chain.{Call, relatives}
+use Rattle.rules.specs.Events.{Event}
 
+-- ---- a panel's exact weights
 -- The exact weights e are `weights` over `scale`, and E is `total` over `totalScale`.
-pub record Direct : Type 0 where
-  pub start : ℕ
+pub record Exact : Type 0 where
   pub weights : List ℕ
   pub scale : ℕ
   pub total : ℕ
   pub totalScale : ℕ
+
+-- "each unit's exact weight e is its exact opening weight, E is the sum of all e": u without its floor is `us` over `scale`, and e is u × a / 100,000
+unfoldable pub exactOpen : List ℕ → ℕ → List ℕ → Exact
+exactOpen us scale rs =
+    record {
+      weights = products us rs;
+      scale = scale * relativeScale;
+      total = sum (products us rs);
+      totalScale = scale * relativeScale;
+    }
+
+-- "each e becomes e × p / 100,000, without rounding" ([5])
+unfoldable pub exactMoved : Exact → List ℕ → Exact
+exactMoved x ps =
+    record {
+      weights = products (x .weights) ps;
+      scale = x .scale * relativeScale;
+      total = x .total;
+      totalScale = x .totalScale;
+    }
+
+-- the panel's mean, the sum of all e over E, as numerator and denominator
+abbrev pub meanTop : Exact → ℕ
+meanTop x = sum (x .weights) * x .totalScale
+
+abbrev pub meanBottom : Exact → ℕ
+meanBottom x = x .scale * x .total
+
+-- ---- D
+-- D's start index is `top` over `bottom`.
+pub record Direct : Type 0 where
+  pub top : ℕ
+  pub bottom : ℕ
+  pub exact : Exact
   pub m : ℕ
 
--- "each unit's exact weight e is its exact opening weight", W × g × a / 100,000,000; "E is the sum of all e, and m is 1"
+-- "the start index given to the open"; the exact opening weight is W × g × a / 1,000,000,000 ([5]); "m is 1"
 unfoldable pub directOpen : List ℕ → List ℕ → List ℕ → ℕ → Direct
-directOpen ws gs rs start =
-    record {
-      start = start;
-      weights = products (products ws gs) rs;
-      scale = shareScale * relativeScale;
-      total = sum (products (products ws gs) rs);
-      totalScale = shareScale * relativeScale;
-      m = 1;
-    }
+directOpen ws gs rs start = record { top = start; bottom = 1; exact = exactOpen (products ws gs) shareScale rs; m = 1 }
 
--- "D is the start index given to the open × the sum of (e × p / 10,000) / E", as numerator and denominator
+-- "D is the start index given to the open × the sum of (e × p / 100,000) / E", as numerator and denominator
 unfoldable pub numerator : Direct → List ℕ → ℕ
-numerator d ps = d .start * (sum (products (d .weights) ps) * d .totalScale)
+numerator d ps = d .top * meanTop (exactMoved (d .exact) ps)
 
-unfoldable pub denominator : Direct → ℕ
-denominator d = d .scale * relativeScale * d .total
+unfoldable pub denominator : Direct → List ℕ → ℕ
+denominator d ps = d .bottom * meanBottom (exactMoved (d .exact) ps)
 
--- Quarter: "Nothing changes." Close: "each e becomes e × p / 10,000, without rounding, and m grows by one."
+-- Quarter: "Nothing changes." Close: "each e becomes e × p / 100,000, … and m grows by one."
 abbrev pub directAfter : Direct → Call → Direct
 directAfter d (Call.quarter ps) = d
-directAfter d (Call.close ps) =
-    record {
-      start = d .start;
-      weights = products (d .weights) ps;
-      scale = d .scale * relativeScale;
-      total = d .total;
-      totalScale = d .totalScale;
-      m = suc (d .m);
-    }
+directAfter d (Call.close ps) = record { top = d .top; bottom = d .bottom; exact = exactMoved (d .exact) ps; m = suc (d .m) }
 
--- 10,000,000 × |F − D| ≤ 11 × (m + 1) × D, both sides multiplied by D's denominator
-pub record Within (figure num den m : ℕ) : Type 0 where
+-- ---- the bound
+-- m + 1, which is the number of floors that a weight has had when the figure is reckoned
+abbrev pub allowed : Direct → ℕ
+allowed d = d .m + 1
+
+-- 10,000,000 × |F − D| ≤ 11 × (m + 1) × D, both sides multiplied by D's denominator; `floors` stands for m + 1
+pub record Within (figure num den floors : ℕ) : Type 0 where
   pub defined : 0 < den
-  pub notAbove : boundScale * (figure * den) ≤ boundScale * num + boundFactor * (m + 1) * num
-  pub notBelow : boundScale * num ≤ boundScale * (figure * den) + boundFactor * (m + 1) * num
+  pub notAbove : boundScale * (figure * den) ≤ boundScale * num + boundFactor * floors * num
+  pub notBelow : boundScale * num ≤ boundScale * (figure * den) + boundFactor * floors * num
 
--- Over a whole list of calls and their answers, one each: every figure is within the bound; "A refused call has no D and changes nothing."
-abbrev pub AllWithin : Direct → List Call → List (Judged ℕ) → Type 0
-AllWithin d [] [] = Unit
-AllWithin d [] (a ∷ rest) = ⊥
-AllWithin d (call ∷ calls) [] = ⊥
-AllWithin d (call ∷ calls) (Judged.refused n ∷ rest) = AllWithin d calls rest
-AllWithin d (call ∷ calls) (Judged.given f ∷ rest) =
-    Within f (numerator d (relatives call)) (denominator d) (d .m) × AllWithin (directAfter d call) calls rest
+-- Over the whole list every figure is within the bound; "A refused call has no D and changes nothing."
+abbrev pub AllWithin : Direct → List Event → Type 0
+AllWithin d [] = Unit
+AllWithin d (Event.refused n ∷ rest) = AllWithin d rest
+AllWithin d (Event.answered call f ∷ rest) =
+    Within f (numerator d (relatives call)) (denominator d (relatives call)) (allowed d) × AllWithin (directAfter d call) rest

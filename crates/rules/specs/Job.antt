@@ -8,7 +8,7 @@ use Rattle.rules.specs.Limits.{shareScale, mostStream, mostHeld}
 use Rattle.rules.specs.Refusals.{Judged, refuse, _then_, judged, stays}
 use Rattle.rules.specs.TakeAll.{Frame, frame, takeAllGroup}
 use Rattle.rules.specs.Draw.{panelNumbers, panelWeights, frameRefusal}
-use Rattle.rules.specs.Chain.{Chain, Call, relatives, openRefusal, openRecord, callRefusal, figureOf, accepted}
+use Rattle.rules.specs.Chain.{Chain, Call, relatives, shared, openRefusal, openRecord, callRefusal, figureOf, accepted}
 use Rattle.rules.specs.Stream.{Command, Front, reading, restOf}
 use Rattle.rules.specs.Lines.{panelLines, quarterLine, closeLine, refusalLine}
 
@@ -120,7 +120,7 @@ onOpen j start =
     (refuse (leb (length (j .panel)) 0) 19
     then openRefusal (j .panel) (j .shares) (j .pending) start)
     j
-    (withChain j (openRecord (j .panel) (j .shares) (j .pending) start))
+    (withChain j (openRecord (shared (j .panel) (j .shares)) (j .pending) start))
     nothing
 
 -- what a call says that gives a figure: `Q F` or `C F`

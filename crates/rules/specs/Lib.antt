@@ -8,6 +8,7 @@ pub mod TakeAll
 pub mod Draw
 pub mod Rotation
 pub mod Chain
+pub mod Events
 pub mod Direct
 pub mod Total
 pub mod Stream
@@ -15,3 +16,8 @@ pub mod Decimal
 pub mod Lines
 pub mod Job
 pub mod Load
+pub mod Word
+pub mod Allocation
+pub mod Register
+pub mod Sheet
+pub mod Writing

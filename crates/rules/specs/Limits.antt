@@ -36,27 +36,27 @@ stepLength = 1000
 abbrev pub shareScale : ℕ
 shareScale = 10000
 
--- a relative of 1, and the range that belongs to the relative
+-- a relative of 1, in hundred-thousandths (document 02, [5]), and the range that belongs to the relative
 abbrev pub relativeScale : ℕ
-relativeScale = 10000
+relativeScale = 100000
 
 abbrev pub lowestRelative : ℕ
-lowestRelative = 2500
+lowestRelative = 25000
 
 abbrev pub highestRelative : ℕ
-highestRelative = 40000
+highestRelative = 400000
 
 -- L is a mean relative times this
 abbrev pub linkScale : ℕ
-linkScale = 10000
+linkScale = 1000
 
 -- the least u or v of a present unit
 abbrev pub leastWeight : ℕ
 leastWeight = 1000000
 
--- the sum of W, and of v, 10^14
+-- the sum of W, and of v, 10^13 (document 02, [5])
 abbrev pub mostWeight : ℕ
-mostWeight = 100000000000000
+mostWeight = 10000000000000
 
 -- an index, 10^8 to 10^10 (an index of 100 is 10^9)
 abbrev pub lowestIndex : ℕ
@@ -104,3 +104,57 @@ stateAddend = 12345
 -- a turnover of a test load is at most this
 abbrev pub turnoverRange : ℕ
 turnoverRange = 10000000
+
+-- ---- sample over sectors (document 02, [10], refusal 31)
+-- a sector's strength
+abbrev pub lowestStrength : ℕ
+lowestStrength = 1
+
+abbrev pub highestStrength : ℕ
+highestStrength = 1000000000
+
+-- T
+abbrev pub mostInterviews : ℕ
+mostInterviews = 6400
+
+-- ---- registers as comma lines (document 02, [14], refusal 34)
+-- digits of a field
+abbrev pub mostField : ℕ
+mostField = 20
+
+-- a number of 32 bits, and one of 64
+abbrev pub mostShort : ℕ
+mostShort = 4294967295
+
+abbrev pub mostLong : ℕ
+mostLong = 18446744073709551615
+
+-- ---- quarterly sheet (document 02, [12], refusal 32)
+-- columns of a name, and of a figure and a change
+abbrev pub nameColumns : ℕ
+nameColumns = 20
+
+abbrev pub numberColumns : ℕ
+numberColumns = 14
+
+-- bytes of a line: its 48 columns and a line feed
+abbrev pub lineBytes : ℕ
+lineBytes = 49
+
+-- the printable bytes
+abbrev pub lowestPrintable : ℕ
+lowestPrintable = 32
+
+abbrev pub highestPrintable : ℕ
+highestPrintable = 126
+
+-- hundredths of a percent in 1
+abbrev pub changeScale : ℕ
+changeScale = 10000
+
+-- decimals of a figure in index points, and of a change in percent
+abbrev pub figureDecimals : ℕ
+figureDecimals = 7
+
+abbrev pub changeDecimals : ℕ
+changeDecimals = 2

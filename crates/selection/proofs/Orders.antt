@@ -9,7 +9,7 @@ use native.Mathlib.Omega.{arith}
 use lib.Dec.{ltb}
 use borrow.Author.Tests.{lt-ltb, le-ltb, ltb-true, ltb-false, not-true}
 use Rattle.rules.specs.Tests.{_and_}
-use Rattle.rules.specs.Selection.{sumOf, count, rank, firsts, byKey}
+use Rattle.rules.specs.Selection.{sumOf, count, rank, firsts, byKey, every}
 use Rattle.rules.proofs.Tests.{and-left, and-right, and-true, and-on, or-on, or-off, or-second, or-none, or-false, by-test, not-both, must-hold, cannot-hold}
 use Rattle.selection.proofs.Sums.{sum-le, sum-less}
 
@@ -20,6 +20,14 @@ pub record Order (among : ℕ → Bool) (before : ℕ → ℕ → Bool) (n : ℕ
       (i j k : ℕ) → i < n → j < n → k < n → among i ≡ true → among j ≡ true → among k ≡ true
       → before i j ≡ true → before j k ≡ true → before i k ≡ true
   pub total : (i j : ℕ) → i < n → j < n → among i ≡ true → among j ≡ true → before i j ≡ false → before j i ≡ false → i ≡ j
+
+-- an order of all is one of those with a mark
+pub order-among : (among : ℕ → Bool) (before : ℕ → ℕ → Bool) (n : ℕ) → Order every before n → Order among before n
+order-among among before n o = record {
+  irr = λ i l h. o .irr i l refl;
+  trans = λ i j k li lj lk ai aj ak. o .trans i j k li lj lk refl refl refl;
+  total = λ i j li lj ai aj. o .total i j li lj refl refl;
+}
 
 module _ {among : ℕ → Bool} {before : ℕ → ℕ → Bool} {n : ℕ} (o : Order among before n) where
   module _ (i j : ℕ) (li : i < n) (lj : j < n) (ai : among i ≡ true) (aj : among j ≡ true) (h : before i j ≡ true) where

@@ -9,7 +9,7 @@ ghost use Rattle.stream_read.specs.Value.{commandFrom, readingFrom, take
 use limits::MOST_STREAM;
 use refusals::Refusal;
 use stream_bytes::two_words;
-use stream_bytes::word;
+use stream_bytes::word_at;
 
 pub enum Command {
     Unit {
@@ -44,7 +44,7 @@ pub enum Reading {
 }
 
 // The bytes of a command, its command byte k among them.
-fn width(k: u8) -> usize
+pub fn width(k: u8) -> usize
     ensures { λ r. ⌜ r ≡ widthOf k ⌝ }
 {
     match k {
@@ -64,13 +64,13 @@ fn operands(s: &[u8], k: u8) -> Command
 {
     match k {
         1 => Command::Unit {
-            number: word(s, 1),
+            number: word_at(s, 1),
             turnover: two_words(s, 5),
-            random: word(s, 13),
+            random: word_at(s, 13),
         },
         2 => Command::Draw {
             size: s[1],
-            start: word(s, 2),
+            start: word_at(s, 2),
         },
         3 => Command::Share {
             place: s[1],
@@ -78,7 +78,7 @@ fn operands(s: &[u8], k: u8) -> Command
         },
         4 => Command::Relative {
             place: s[1],
-            relative: word(s, 2),
+            relative: word_at(s, 2),
         },
         5 => Command::Open {
             start: two_words(s, 1),

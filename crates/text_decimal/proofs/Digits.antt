@@ -75,7 +75,7 @@ unfolding decimalOn
 digits-length n = omega (arith, most-length 20 n [])
 
 -- digits in front of a text
-on : (n : ℕ) (text : List ℕ) → decimalOn n text ≡ digitsOf n ++ text
+pub on : (n : ℕ) (text : List ℕ) → decimalOn n text ≡ digitsOf n ++ text
 unfolding decimalOn
 on n text = split 20 n [] text
 

@@ -71,3 +71,10 @@ says {at} {p} {a} {b} {o} {o₁} e put = subst (λ (l : List ℕ). Put at l o o�
 pub nothing : (o : List ℕ) → Put 0 [] o o 0
 unfolding laidAt
 nothing o = record { place = refl; bytes = refl }
+
+-- a text laid at the front
+pub fronted : {text o o₁ : List ℕ} {r : ℕ} → Put 0 text o o₁ r → o₁ ≡ text ++ drop (length text) o
+unfolding laidAt
+fronted {text} {o} put =
+    let start : 0 + length text ≡ length text = omega arith in
+    put .bytes ∙ ap (λ (n : ℕ). text ++ drop n o) start

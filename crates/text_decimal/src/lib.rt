@@ -6,7 +6,7 @@ ghost use Rattle.rules.specs.Lines.{lineOf, lineOf2};
 ghost use Rattle.text_decimal.specs.Put.{digitsOf, fieldOf, startOf, Put};
 
 // Lays b at the place at, and answers the place after it.
-fn put_byte(out: &mut [u8], at: usize, b: u8) -> usize
+pub fn put_byte(out: &mut [u8], at: usize, b: u8) -> usize
     requires { ⌜ at + 1 ≤ length (now out) ⌝ }
     ensures { λ r. ⌜ Put at (b ∷ []) (now (out .entry)) (now (out .exit)) r ⌝ }
 {
@@ -15,7 +15,7 @@ fn put_byte(out: &mut [u8], at: usize, b: u8) -> usize
 }
 
 // Lays the digits of n from the place at on, and answers the place after them.
-fn put_decimal(out: &mut [u8], at: usize, n: u64) -> usize
+pub fn put_decimal(out: &mut [u8], at: usize, n: u64) -> usize
     requires { ⌜ at + length (digitsOf n) ≤ length (now out) ⌝ }
     ensures { λ r. ⌜ Put at (digitsOf n) (now (out .entry)) (now (out .exit)) r ⌝ }
 {

@@ -1,12 +1,13 @@
 -- A line takes at most 44 bytes, and a buffer has the room of a text or stays as it is.
 use Prim.Native.Nat.{ℕ, _+_, _≤_, _<_}
-use mathlib.Core.Path.{_≡_, ap, _∙_}
-use mathlib.Core.List.{List, _++_}
-use lib.ListN.{length, drop}
+use mathlib.Core.Path.{_≡_, _∙_}
+use mathlib.Core.List.{List}
+use lib.ListN.{length}
 use native.Mathlib.Omega.{arith}
 use borrow.Author.Tests.{lt-ltb, le-ltb}
 use Rattle.rules.specs.Lines.{lineOf, lineOf2}
-use Rattle.text_decimal.specs.Put.{laidAt, Put}
+use Rattle.text_decimal.specs.Put.{Put}
+use Rattle.text_decimal.proofs.Laying.{fronted}
 use Rattle.text_decimal.proofs.Digits.{digits-length, line-length, line2-length}
 use Rattle.text_lines.specs.Laid.{lineRoom, laid, laidCount, Lays}
 
@@ -23,11 +24,10 @@ line2-next letter a b {at} put = omega (arith, put .place, line2-fits letter a b
 module _ (room : ℕ) (text o : List ℕ) where
   -- a text laid at the front of a buffer with the room
   pub at-front : {o₁ : List ℕ} {r : ℕ} → room ≤ length o → Put 0 text o o₁ r → Lays room text o o₁ r
-  unfolding laidAt laid laidCount
+  unfolding laid laidCount
   at-front h put =
       let start : 0 + length text ≡ length text = omega arith in
-      let fronted : laidAt 0 text o ≡ text ++ drop (length text) o = ap (λ (n : ℕ). text ++ drop n o) start in
-      (simp (le-ltb _ _ h) (put .place ∙ start), simp (le-ltb _ _ h) (put .bytes ∙ fronted))
+      (simp (le-ltb _ _ h) (put .place ∙ start), simp (le-ltb _ _ h) (fronted put))
 
   -- a buffer without the room stays
   pub no-room : length o < room → Lays room text o o 0

@@ -9,7 +9,7 @@ use Rattle.rules.specs.Refusals.{refuse, _then_}
 use Rattle.rules.specs.Lists.{anyPair}
 use Rattle.rules.specs.Chain.{held, badRelative, callInputRefusal}
 use Rattle.rules.proofs.Chains.{sound}
-use Rattle.chain_figure.specs.Steps.{recordWith}
+use Rattle.chain_record.specs.Record.{recordWith}
 use Rattle.chain_figure.proofs.judge_call.Statement.{statement}
 use Rattle.chain_figure.proofs.judge_call.Tie as tie
 
@@ -25,15 +25,15 @@ returns-2 c = simp (sym (c .before .before .is-broken .ensures) ∙ c .before .i
 abbrev start : tie.Else2 → tie.Start
 start s = s .before .before .before .before .before
 
-units-long : (s : tie.Else2) → let a = start s .args in length (take (a .units) (a .places .now)) ≡ a .units
+units-long : (s : tie.Else2) → let a = start s .args in length (take (a .numbers .units) (a .places .now)) ≡ a .numbers .units
 units-long s =
     let a = start s .args in
     let m = sound _ (sym (s .before .before .is-broken .ensures) ∙ s .before .if1 .left) in
-    length-take-le (a .units) (a .places .now) (omega (arith, start s .pre, m .most))
+    length-take-le (a .numbers .units) (a .places .now) (omega (arith, start s .pre, m .most))
 
 last : (s : tie.Else2) → let a = start s .args in
-    callInputRefusal (recordWith (a .places .now) (a .units) (a .index) (a .closes)) (a .p .now)
-    ≡ refuse (anyPair badRelative (take (a .units) (a .places .now)) (a .p .now)) 13
+    callInputRefusal (recordWith (a .places .now) (a .numbers)) (a .p .now)
+    ≡ refuse (anyPair badRelative (take (a .numbers .units) (a .places .now)) (a .p .now)) 13
 unfolding callInputRefusal refuse _then_ held
 last s = simp (sym (s .before .before .is-broken .ensures) ∙ s .before .if1 .left, eq-eqb _ _ (s .if2 .left))
 

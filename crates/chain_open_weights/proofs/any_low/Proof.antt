@@ -11,10 +11,10 @@ use Rattle.chain_open_weights.proofs.any_low.Statement.{statement}
 use Rattle.chain_open_weights.proofs.any_low.Tie as tie
 
 abbrev Inv-loop : tie.InvT-loop
-Inv-loop g weights i₀ i = (i ≤ length g) × (anyPair badWeight (drop i g) (drop i weights) ≡ anyPair badWeight g weights)
+Inv-loop marks weights i₀ i = (i ≤ length marks) × (anyPair badWeight (drop i marks) (drop i weights) ≡ anyPair badWeight marks weights)
 
 abbrev μ-loop : tie.MeasureT-loop
-μ-loop g weights i₀ i = length g - i
+μ-loop marks weights i₀ i = length marks - i
 
 returns : tie.Need-returns Inv-loop μ-loop
 returns c =

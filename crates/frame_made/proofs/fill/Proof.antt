@@ -6,11 +6,9 @@ use native.Mathlib.Nat.{mod-lt}
 use native.Mathlib.Numerals.{add-one}
 use native.Mathlib.Omega.{arith}
 use borrow.Author.Needs.{needs}
-use lib.ListN.{length, getD, set}
 use Rattle.rules.specs.Limits.{stateRange, randomRange, turnoverRange}
-use Rattle.rules.specs.Refusals.{written}
 use Rattle.rules.specs.Load.{stepped, madeNumbers, madeTurnovers, madeRandoms}
-use Rattle.rules.proofs.Lists.{writtenTo, length-writtenTo, writtenTo-next, writtenTo-all}
+use Rattle.rules.proofs.Lists.{writtenTo, laid-length, laid-next, laid-end}
 use Rattle.frame_made.proofs.Made.{stateAt, state-next, turnover-at, random-at, number-at, length-numbers, length-turnovers, length-randoms}
 use Rattle.frame_made.proofs.fill.Statement.{statement}
 use Rattle.frame_made.proofs.fill.Tie as tie
@@ -34,20 +32,6 @@ stepped-low : (s : ℕ) → stepped s < stateRange
 unfolding stepped
 stepped-low s = mod-lt _ (omega arith)
 
--- a list that is filled so far has its buffer's length
-same : (i count : ℕ) (news buffer now : List ℕ) → now ≡ writtenTo i news buffer → length news ≡ count → i ≤ count → count ≤ length buffer → length now ≡ length buffer
-same i count news buffer now e l h k = ap length e ∙ length-writtenTo i news buffer (omega arith) (omega arith)
-
--- one place more
-next : (i count x : ℕ) (news buffer now : List ℕ) → now ≡ writtenTo i news buffer → length news ≡ count → i < count → count ≤ length buffer → x ≡ getD news i 0 → set now i x ≡ writtenTo (i + 1) news buffer
-next i count x news buffer now e l h k v = rw (e, v, add-one) (writtenTo-next i news buffer (omega arith) (omega arith))
-
--- all places
-end : (i count : ℕ) (news buffer now : List ℕ) → now ≡ writtenTo i news buffer → length news ≡ count → i ≤ count → count ≤ i → now ≡ written 0 news buffer
-end i count news buffer now e l h k =
-    let last : i ≡ length news = omega arith in
-    e ∙ ap (λ (n : ℕ). writtenTo n news buffer) last ∙ writtenTo-all news buffer
-
 loop-holds : tie.Need-loop-holds Inv-loop μ-loop
 loop-holds c =
     record { most = omega arith; state = refl; low = c .before .before .before .pre .0; numbers = refl; turnovers = refl; randoms = refl }
@@ -59,19 +43,19 @@ slice-write-numbers : tie.Need-slice-write-numbers Inv-loop μ-loop
 slice-write-numbers c =
     let at = c .before .before .before .loop in
     let s = c .before .before .before .before .before .before .before in
-    omega (arith, same _ _ _ _ _ (at .inv .numbers) (length-numbers (s .args .count) 1) (at .inv .most) (s .pre .2))
+    omega (arith, laid-length _ _ _ _ _ (at .inv .numbers) (length-numbers (s .args .count) 1) (at .inv .most) (s .pre .2))
 
 slice-write-turnovers : tie.Need-slice-write-turnovers Inv-loop μ-loop
 slice-write-turnovers c =
     let at = c .before .before .before .loop in
     let s = c .before .before .before .before .before .before .before in
-    omega (arith, same _ _ _ _ _ (at .inv .turnovers) (length-turnovers (s .args .count) (s .args .start)) (at .inv .most) (s .pre .3))
+    omega (arith, laid-length _ _ _ _ _ (at .inv .turnovers) (length-turnovers (s .args .count) (s .args .start)) (at .inv .most) (s .pre .3))
 
 slice-write-randoms : tie.Need-slice-write-randoms Inv-loop μ-loop
 slice-write-randoms c =
     let at = c .before .before .before .loop in
     let s = c .before .before .before .before .before .before .before in
-    omega (arith, same _ _ _ _ _ (at .inv .randoms) (length-randoms (s .args .count) (s .args .start)) (at .inv .most) (s .pre .4))
+    omega (arith, laid-length _ _ _ _ _ (at .inv .randoms) (length-randoms (s .args .count) (s .args .start)) (at .inv .most) (s .pre .4))
 
 loop-again : tie.Need-loop-again Inv-loop μ-loop
 loop-again c =
@@ -85,10 +69,10 @@ loop-again c =
       most = omega arith;
       state = rw add-one (second ∙ sym (state-next (at .i) (a .start)));
       low = rw (c .step2 .ensures) (stepped-low _);
-      numbers = next _ _ _ _ _ _ (at .inv .numbers) (length-numbers (a .count) 1) more (s .pre .2) (omega (arith, number-at (a .count) (at .i) 1 more));
-      turnovers = next _ _ _ _ _ _ (at .inv .turnovers) (length-turnovers (a .count) (a .start)) more (s .pre .3)
+      numbers = laid-next _ _ _ _ _ _ (at .inv .numbers) (length-numbers (a .count) 1) more (s .pre .2) (omega (arith, number-at (a .count) (at .i) 1 more));
+      turnovers = laid-next _ _ _ _ _ _ (at .inv .turnovers) (length-turnovers (a .count) (a .start)) more (s .pre .3)
           (ap (λ (n : ℕ). n % turnoverRange + 1) first ∙ sym (turnover-at (a .count) (at .i) (a .start) more));
-      randoms = next _ _ _ _ _ _ (at .inv .randoms) (length-randoms (a .count) (a .start)) more (s .pre .4)
+      randoms = laid-next _ _ _ _ _ _ (at .inv .randoms) (length-randoms (a .count) (a .start)) more (s .pre .4)
           (ap (λ (n : ℕ). n % randomRange) second ∙ sym (random-at (a .count) (at .i) (a .start) more));
     }
 
@@ -96,29 +80,29 @@ same-length : tie.Need-same-length Inv-loop μ-loop
 same-length c =
     let at = c .before .loop in
     let s = c .before .before .before .before .before in
-    same _ _ _ _ _ (at .inv .numbers) (length-numbers (s .args .count) 1) (at .inv .most) (s .pre .2)
+    laid-length _ _ _ _ _ (at .inv .numbers) (length-numbers (s .args .count) 1) (at .inv .most) (s .pre .2)
 
 same-length-2 : tie.Need-same-length-2 Inv-loop μ-loop
 same-length-2 c =
     let at = c .before .loop in
     let s = c .before .before .before .before .before in
-    same _ _ _ _ _ (at .inv .turnovers) (length-turnovers (s .args .count) (s .args .start)) (at .inv .most) (s .pre .3)
+    laid-length _ _ _ _ _ (at .inv .turnovers) (length-turnovers (s .args .count) (s .args .start)) (at .inv .most) (s .pre .3)
 
 same-length-3 : tie.Need-same-length-3 Inv-loop μ-loop
 same-length-3 c =
     let at = c .before .loop in
     let s = c .before .before .before .before .before in
-    same _ _ _ _ _ (at .inv .randoms) (length-randoms (s .args .count) (s .args .start)) (at .inv .most) (s .pre .4)
+    laid-length _ _ _ _ _ (at .inv .randoms) (length-randoms (s .args .count) (s .args .start)) (at .inv .most) (s .pre .4)
 
 returns : tie.Need-returns Inv-loop μ-loop
 returns c =
     let at = c .before .loop in
     let a = c .before .before .before .before .before .args in
     let done = c .loop-test .left in (
-      end _ _ _ _ _ (at .inv .numbers) (length-numbers (a .count) 1) (at .inv .most) done,
+      laid-end _ _ _ _ _ (at .inv .numbers) (length-numbers (a .count) 1) (at .inv .most) done,
       (
-        end _ _ _ _ _ (at .inv .turnovers) (length-turnovers (a .count) (a .start)) (at .inv .most) done,
-        end _ _ _ _ _ (at .inv .randoms) (length-randoms (a .count) (a .start)) (at .inv .most) done,
+        laid-end _ _ _ _ _ (at .inv .turnovers) (length-turnovers (a .count) (a .start)) (at .inv .most) done,
+        laid-end _ _ _ _ _ (at .inv .randoms) (length-randoms (a .count) (a .start)) (at .inv .most) done,
       ),
     )
 

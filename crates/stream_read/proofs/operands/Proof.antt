@@ -8,11 +8,11 @@ use Rattle.stream_read.proofs.operands.Tie as tie
 
 returns : tie.Need-returns
 unfolding commandOf operandsOf
-returns c = rw (c .before .before .before .match .keys1, c .before .before .word .ensures, c .before .two-words .ensures, c .word2 .ensures)
+returns c = rw (c .before .before .before .match .keys1, c .before .before .word-at .ensures, c .before .two-words .ensures, c .word-at2 .ensures)
 
 returns-2 : tie.Need-returns-2
 unfolding commandOf operandsOf
-returns-2 c = rw (c .before .before .match .keys2, byte (c .before .before .before .before .args .s .now) 1, c .word3 .ensures)
+returns-2 c = rw (c .before .before .match .keys2, byte (c .before .before .before .before .args .s .now) 1, c .word-at3 .ensures)
 
 returns-3 : tie.Need-returns-3
 unfolding commandOf operandsOf
@@ -20,7 +20,7 @@ returns-3 c = rw (c .before .before .match .keys3, byte (c .before .before .befo
 
 returns-4 : tie.Need-returns-4
 unfolding commandOf operandsOf
-returns-4 c = rw (c .before .before .match .keys4, byte (c .before .before .before .before .args .s .now) 1, c .word4 .ensures)
+returns-4 c = rw (c .before .before .match .keys4, byte (c .before .before .before .before .args .s .now) 1, c .word-at4 .ensures)
 
 returns-7 : tie.Need-returns-7
 unfolding commandOf operandsOf

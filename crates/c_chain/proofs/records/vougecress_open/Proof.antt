@@ -3,9 +3,10 @@ use mathlib.Core.Path.{_∙_}
 use borrow.Author.Tests.{lt-ltb, le-ltb}
 use lib.ListN.{length}
 use Rattle.rules.specs.Refusals.{refuse, _then_}
-use Rattle.rules.specs.Chain.{openRefusal, openRecord, openAnswer}
+use Rattle.rules.specs.Chain.{shared, openRefusal, openRecord, openAnswer}
+use Rattle.chain_record.specs.Record.{emptyRecord}
 use Rattle.chain.specs.Record.{recordOf}
-use Rattle.chain_open.specs.Opened.{emptyRecord, openedRecord}
+use Rattle.chain_open.specs.Opened.{openedRecord}
 use Rattle.c_values.specs.Record.{recordPlaces}
 use Rattle.c_values.proofs.Places.{opening-number, leaves}
 use Rattle.c_chain.specs.Record.{openedNumber, openedList}
@@ -28,7 +29,7 @@ returns-2 c =
     let a = o .before .before .before .before .before .before .args in
     let xs = a .lent .now in
     let n = openRefusal (a .weights .now) (a .shares .now) (a .relatives .now) (a .start) in
-    let new = openRecord (a .weights .now) (a .shares .now) (a .relatives .now) (a .start) in
+    let new = openRecord (shared (a .weights .now) (a .shares .now)) (a .relatives .now) (a .start) in
     let long = le-ltb (length xs) recordPlaces (o .before .if1 .left) in
     let opened = o .«open» .result in
     let number = m .opening-number .ensures ∙ opening-number (opened .answer) (recordOf (opened .chain)) new n (o .«open» .ensures .0) in

@@ -11,20 +11,22 @@ use Rattle.c_values.proofs.record.store.Tie as tie
 
 copy-requires : tie.Need-copy-requires
 copy-requires c κs =
-    let places : length (c .before .before .before .before .args .chain .weights) ≡ mostPanel = search needs in
+    let places : length (c .before .before .before .before .before .args .chain .weights) ≡ mostPanel = search needs in
     rw places (simp (length-take, length-drop, length-set) (omega arith))
 
 same-length : tie.Need-same-length
 same-length c =
-    let a = c .before .before .before .before .before .before .before .args in
-    let three = set (set (set (a .lent .now) 0 (a .chain .units)) 1 (a .chain .index)) 2 (a .chain .closes) in
+    let a = c .before .before .before .before .before .before .before .before .args in
+    let n = a .chain .numbers in
+    let three = set (set (set (a .lent .now) 0 (n .units)) 1 (n .index)) 2 (n .closes) in
     same-len-mid 3 mostPanel three (c .before .before .copy .last .1 .0) (c .before .before .copy .kept .1 .0) ∙ simp length-set
 
 returns : tie.Need-returns
 returns c =
-    let a = c .before .before .before .before .before .before .before .args in
+    let a = c .before .before .before .before .before .before .before .before .args in
+    let n = a .chain .numbers in
     rw (c .before .before .copy .ensures)
-    (laid (a .lent .now) (a .chain .weights) (a .chain .units) (a .chain .index) (a .chain .closes) (omega arith) (search needs))
+    (laid (a .lent .now) (a .chain .weights) (n .units) (n .index) (n .closes) (omega arith) (search needs))
 
 pub store-spec : {M : Type 1} → statement M
 store-spec =

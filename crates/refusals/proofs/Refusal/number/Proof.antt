@@ -9,9 +9,10 @@ pub number-spec : {M : Type 1} → statement M
 number-spec =
     tie.close
     (tie.spec (λ c. search needs) (λ c. search needs) (λ c. search needs) (λ c. search needs) (λ c. search needs) (λ c. search needs)
-    (λ c. search needs) (λ c. search needs) (λ c. search needs) (λ c. search needs) (λ c. search needs) (λ c. search needs) (λ c. search needs)
-    (λ c. search needs) (λ c. search needs) (λ c. search needs) (λ c. search needs) (λ c. search needs) (λ c. search needs) (λ c. search needs)
-    (λ c. search needs) (λ c. search needs) (λ c. search needs) (λ c. search needs) (λ c. search needs)
+    (λ c. search needs) (λ c. search needs) (λ c. search needs) (λ c. search needs) (λ c. search needs) (λ c. search needs)
+    (λ c. search needs) (λ c. search needs) (λ c. search needs) (λ c. search needs) (λ c. search needs) (λ c. search needs)
+    (λ c. search needs) (λ c. search needs) (λ c. search needs) (λ c. search needs) (λ c. search needs) (λ c. search needs)
+    (λ c. search needs) (λ c. search needs) (λ c. search needs) (λ c. search needs) (λ c. search needs) (λ c. search needs)
     (λ c. sym (ap numberOf (c .enum-told .given .1))) (λ c. sym (ap numberOf (c .enum-told2 .given .1)))
     (λ c. sym (ap numberOf (c .enum-told3 .given .1))) (λ c. sym (ap numberOf (c .enum-told4 .given .1)))
     (λ c. sym (ap numberOf (c .enum-told5 .given .1))) (λ c. sym (ap numberOf (c .enum-told6 .given .1)))
@@ -24,4 +25,6 @@ number-spec =
     (λ c. sym (ap numberOf (c .enum-told19 .given .1))) (λ c. sym (ap numberOf (c .enum-told20 .given .1)))
     (λ c. sym (ap numberOf (c .enum-told21 .given .1))) (λ c. sym (ap numberOf (c .enum-told22 .given .1)))
     (λ c. sym (ap numberOf (c .enum-told23 .given .1))) (λ c. sym (ap numberOf (c .enum-told24 .given .1)))
-    (λ c. sym (ap numberOf (c .enum-told25 .given .1))))
+    (λ c. sym (ap numberOf (c .enum-told25 .given .1))) (λ c. sym (ap numberOf (c .enum-told26 .given .1)))
+    (λ c. sym (ap numberOf (c .enum-told27 .given .1))) (λ c. sym (ap numberOf (c .enum-told28 .given .1)))
+    (λ c. sym (ap numberOf (c .enum-told29 .given .1))) (λ c. sym (ap numberOf (c .enum-told30 .given .1))))

@@ -1,0 +1,4 @@
+pub mod Scan
+pub mod Filled
+pub mod Turns
+pub mod TextCalls

@@ -1,0 +1,4 @@
+pub mod Marked
+pub mod Summed
+pub mod Passed
+pub mod Settling

@@ -1,0 +1,4 @@
+pub mod Accepted
+pub mod Passes
+pub mod Falling
+pub mod Counts
