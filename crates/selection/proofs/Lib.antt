@@ -7,3 +7,4 @@ pub mod Panel
 pub mod Listed
 pub mod Segment
 pub mod Held
+pub mod Marking
