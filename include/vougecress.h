@@ -6,7 +6,7 @@
  * number of document 01, with every other field of the answer 0 (34 alone comes with an offset); after a refusal every
  * lent list is as it was.
  * A null pointer is allowed where the count is 0. Lists that are lent to be written may not overlap other lists of the call.
- * No call asks for memory of its own but on the stack, of which it takes up to 256 KB. Nothing is kept between calls, so that
+ * No call asks for memory of its own but on the stack, of which it takes up to 512 KB. Nothing is kept between calls, so that
  * threads may call at once, each with its own lists.
  *
  * Compile and link: gcc program.c -Ibuild build/libvougecress.a, or, once it is installed (PREFIX=... ./install.sh),
