@@ -18,7 +18,6 @@ use Rattle.refusals.specs.Number.{numberOf}
 use Rattle.refusals.proofs.Numbers.{number-is-suc}
 use Rattle.refusals.proofs.Answers.{stops-by}
 use Rattle.frame.proofs.Accepted.{Accepted, accepted}
-use Rattle.selection.proofs.Sums.{listed-length}
 use Rattle.group.specs.declared.Group.{Group}
 use Rattle.group.specs.Group.{IsGroup, Sound}
 use Rattle.group.proofs.Accepted.{sound}
@@ -29,16 +28,15 @@ use Rattle.rotation_members.specs.Members.{memberBy}
 use Rattle.rotation_judge.proofs.Accepted.{OldAccepted, old-accepted}
 use Rattle.rotation_step.specs.Leaving.{under, settingAt, leaving, firstStep}
 use Rattle.rotation_step.specs.Search.{Searched}
-use Rattle.rotation_leavers.specs.Leavers.{leavingUnits, numbersOf}
-use Rattle.rotation_leavers.proofs.Leavers.{numbers-length}
-use Rattle.rotation.specs.Answer.{leaversOver}
+use Rattle.rotation_leavers.specs.Leavers.{unitsInOrder, numbersOf}
+use Rattle.rotation_leavers.proofs.Leavers.{numbers-length, in-order-many}
 use Rattle.rotation.proofs.Members.{Told, member-low, first-is, leavers-are}
 
 -- one of 1 to 7 stops it
 pub refused-early :
     (f : Frame) (z old : ℕ) (panel : List ℕ) (fraction : ℕ) (buffer : List ℕ) (why : Refusal)
     → numberOf why ≡ (frameRefusal f z old then oldPanelRefusal panel fraction buffer)
-    → (Judged.refused (numberOf why) ≡ rotationAnswer f z old panel fraction buffer) × (buffer ≡ leaversOver f z old panel fraction buffer)
+    → (Judged.refused (numberOf why) ≡ rotationAnswer f z old panel fraction buffer) × (buffer ≡ rotationLeavers f z old panel fraction buffer)
 unfolding rotationAnswer rotationLeavers rotationRefusal
 refused-early f z old panel fraction buffer why e =
     let stopped : numberOf why ≡ rotationRefusal f z old panel fraction buffer = stops-by why _ _ e ∙ then-assoc _ _ _ in
@@ -89,26 +87,25 @@ module _ (ns ts rs : List ℕ) (z old : ℕ) (panel : List ℕ) (fraction : ℕ)
       step-is = rw (first, n) (sym (first-is _ _ _ _ _ _ _ _ _ told fraction))
 
       -- no step is enough
-      pub turn-refused : steps ≤ k → (Judged.refused 8 ≡ rotationAnswer f z old panel fraction buffer) × (buffer ≡ leaversOver f z old panel fraction buffer)
+      pub turn-refused : steps ≤ k → (Judged.refused 8 ≡ rotationAnswer f z old panel fraction buffer) × (buffer ≡ rotationLeavers f z old panel fraction buffer)
       unfolding rotationAnswer rotationLeavers refuse
       turn-refused l = rw (left-over, step-is, le-leb steps k l) (refl, refl)
 
       -- step k is the first that is enough, and those who leave at its start are written
       module _ (at : Setting) (s : at ≡ settingAt setting k) where
         abbrev units : List ℕ
-        units = leavingUnits ts rs gs ms at
+        units = unitsInOrder ts rs gs ms at
 
         leavers-at : leavers f (takeAllGroup ts z) panel (startAt old k) ≡ numbersOf ns units
         leavers-at = rw s (sym (leavers-are _ _ _ _ _ _ _ _ _ told (startAt old k)))
 
         many-at : leaving ts rs gs ms at ≡ length (numbersOf ns units)
-        unfolding leaving leavingUnits
-        many-at = sym (numbers-length ns units ∙ listed-length _ _ _)
+        many-at = sym (numbers-length ns units ∙ in-order-many ts rs gs ms at)
 
         pub turn-given :
             k < steps → (count : ℕ) → count ≡ leaving ts rs gs ms at → (after : List ℕ) → after ≡ written 0 (numbersOf ns units) buffer
             → (Judged.given (record { step = k; start = at .start; leaving = count }) ≡ rotationAnswer f z old panel fraction buffer)
-            × (after ≡ leaversOver f z old panel fraction buffer)
+            × (after ≡ rotationLeavers f z old panel fraction buffer)
         unfolding rotationAnswer rotationLeavers refuse
         turn-given low count c after w =
             let there : at .start ≡ startAt old k = ap (λ (x : Setting). x .start) s in

@@ -1,9 +1,9 @@
 -- A step looks at the members alone, and at keys over gaps: who of them leaves, how many, the first step at which enough do, and the list of leavers
 -- are those of `rules`, which look at the whole frame and its keys. The group of `rules` is any that the marks tell.
-use mathlib.Core.Path.{_≡_, refl, ap, _∙_}
-use mathlib.Core.Bool.{Bool, not}
-use mathlib.Core.List.{List, map, map-append, append-nil}
-use Prim.Native.Nat.{ℕ, zero, suc, _<_}
+use mathlib.Core.Path.{_≡_, ap, _∙_}
+use mathlib.Core.Bool.{not}
+use mathlib.Core.List.{List}
+use Prim.Native.Nat.{ℕ, _<_}
 use lib.ListN.{length, getD}
 use lib.Seq.{take-length}
 use Rattle.rules.specs.Limits.{steps}
@@ -11,7 +11,6 @@ use Rattle.rules.specs.Selection.{count, listed}
 use Rattle.rules.specs.TakeAll.{Frame, Group, frame}
 use Rattle.rules.specs.Draw.{sampledBy}
 use Rattle.rules.specs.Rotation.{member, members, required, startAt, leaves, suffices, leastStep, leavers}
-use Rattle.rules.proofs.Tests.{by-test}
 use Rattle.selection.specs.Held.{Held}
 use Rattle.selection.proofs.Held.{held-again, held-count}
 use Rattle.selection.proofs.Least.{least-same}
@@ -22,16 +21,7 @@ use Rattle.draw_key.specs.declared.Setting.{Setting}
 use Rattle.draw_key.specs.Units.{sampledOf}
 use Rattle.rotation_members.specs.Members.{memberBy}
 use Rattle.rotation_step.specs.Leaving.{under, memberLeaves, leaving, enoughLeave, firstStep}
-use Rattle.rotation_leavers.specs.Leavers.{leavingUnits, numbersOf}
-
--- f of the marked units is f of each of them as they are listed
-map-listed : (mark : ℕ → Bool) (f : ℕ → ℕ) (n : ℕ) → map f (listed mark (λ i. i) n) ≡ listed mark f n
-unfolding listed
-map-listed mark f zero = refl
-map-listed mark f (suc n) =
-    by-test (mark n)
-    (λ e. rw (e, map-append, map-listed mark f n))
-    (λ e. rw (e, append-nil, append-nil) (map-listed mark f n))
+use Rattle.rotation_leavers.specs.Leavers.{leavingUnits, unitsInOrder, numbersOf}
 
 -- what the marks, the gaps and the list of the members' places tell of a frame and its group
 pub record Told (ns ts rs : List ℕ) (r : Group) (panel marks gs : List ℕ) (s : Setting) (ms : List ℕ) : Type 0 where
@@ -76,9 +66,9 @@ module _ (ns ts rs : List ℕ) (r : Group) (panel marks gs : List ℕ) (s : Sett
     unfolding leavingUnits leaves
     units-are = listed-same _ _ (λ j. getD ms j 0) (length ms) leaves-at ∙ held-again held (λ i. not (sampledBy f r start i)) (λ i. i)
 
-    pub leavers-are : numbersOf ns (leavingUnits ts rs gs ms (under s start)) ≡ leavers f r panel start
-    unfolding numbersOf leavers
-    leavers-are = rw units-are (map-listed (leaves f r panel start) (λ i. getD ns i 0) (length ts))
+    pub leavers-are : numbersOf ns (unitsInOrder ts rs gs ms (under s start)) ≡ leavers f r panel start
+    unfolding numbersOf unitsInOrder leavers
+    leavers-are = rw units-are
 
   suffices-is : (fraction k : ℕ) → enoughLeave ts rs gs ms s (required fraction (length ms)) k ≡ suffices f r (s .start) panel fraction k
   unfolding enoughLeave suffices

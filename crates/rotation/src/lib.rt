@@ -13,8 +13,8 @@ ghost use Rattle.rules.specs.Limits.{mostFrame, fractionScale};
 ghost use Rattle.rules.specs.Refusals.{_then_};
 ghost use Rattle.rules.specs.TakeAll.{frame};
 ghost use Rattle.rules.specs.Draw.{frameRefusal};
-ghost use Rattle.rules.specs.Rotation.{required, oldPanelRefusal, rotationAnswer, rotationLeavers, Holds};
-ghost use Rattle.rotation.specs.Answer.{answerFrom, leaversOver};
+ghost use Rattle.rules.specs.Rotation.{required, oldPanelRefusal, rotationAnswer, rotationLeavers};
+ghost use Rattle.rotation.specs.Answer.{answerFrom};
 
 pub enum Answer {
     Rotated { k: u32, start: u32, count: usize },
@@ -44,7 +44,7 @@ fn turn(
 ) -> Answer
     requires { ⌜ (frameRefusal (frame (now numbers) (now turnovers) (now randoms)) z old then oldPanelRefusal (now panel) fraction (now leavers)) ≡ 0 ⌝ }
     ensures { λ r. ⌜ answerFrom r ≡ rotationAnswer (frame (now (numbers .entry)) (now (turnovers .entry)) (now (randoms .entry))) z old (now (panel .entry)) fraction (now (leavers .entry)) ⌝ }
-    ensures { λ _. ⌜ now (leavers .exit) ≡ leaversOver (frame (now (numbers .entry)) (now (turnovers .entry)) (now (randoms .entry))) z old (now (panel .entry)) fraction (now (leavers .entry)) ⌝ }
+    ensures { λ _. ⌜ now (leavers .exit) ≡ rotationLeavers (frame (now (numbers .entry)) (now (turnovers .entry)) (now (randoms .entry))) z old (now (panel .entry)) fraction (now (leavers .entry)) ⌝ }
 {
     let mut marks = [0u8; MOST_FRAME];
     let g = group::find_group(turnovers, z, &mut marks);
@@ -80,8 +80,8 @@ fn turn(
     }
 }
 
-// Rotation: the smallest step, the new start, and the count of the leavers, whose unit numbers are written to the front of the buffer;
-// or the lowest refusal that applies, and then the buffer is as it was.
+// Rotation: the smallest step, the new start, and the count of the leavers, whose unit numbers are written to the front of the buffer, by falling
+// turnover, equal turnovers by lower number; or the lowest refusal that applies, and then the buffer is as it was.
 pub fn rotate(
     numbers: &[u32],
     turnovers: &[u64],
@@ -94,8 +94,8 @@ pub fn rotate(
 ) -> Answer
     ensures { λ r. ⌜ answerFrom r ≡ rotationAnswer (frame (now (numbers .entry)) (now (turnovers .entry)) (now (randoms .entry))) z old (now (panel .entry)) fraction (now (leavers .entry)) ⌝ }
     ensures { λ _.
-        ⌜ Holds (rotationLeavers (frame (now (numbers .entry)) (now (turnovers .entry)) (now (randoms .entry))) z old (now (panel .entry)) fraction (now (leavers .entry)))
-        (now (leavers .entry)) (now (leavers .exit)) ⌝ }
+        ⌜ now (leavers .exit) ≡ rotationLeavers (frame (now (numbers .entry)) (now (turnovers .entry)) (now (randoms .entry))) z old
+        (now (panel .entry)) fraction (now (leavers .entry)) ⌝ }
 {
     let verdict = rotation_judge::judge(
         numbers,
