@@ -160,9 +160,10 @@ Turn baseline::rotate(const Frame& f, size_t z, uint32_t start, const std::vecto
         if (leaving < wanted) continue;
         turn.step = step;
         turn.start = at;
-        for (uint32_t unit : members) {
-            if (!sampled[unit]) turn.leavers.push_back(f.numbers[unit]);
-        }
+        members.erase(std::remove_if(members.begin(), members.end(), [&](uint32_t unit) { return sampled[unit] != 0; }), members.end());
+        // By falling turnover, equal turnovers by lower unit number; members rise.
+        std::stable_sort(members.begin(), members.end(), [&](uint32_t a, uint32_t b) { return f.turnovers[a] > f.turnovers[b]; });
+        for (uint32_t unit : members) turn.leavers.push_back(f.numbers[unit]);
         return turn;
     }
     turn.refusal = 8;

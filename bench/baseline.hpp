@@ -13,7 +13,7 @@ struct Panel {
     std::vector<uint64_t> weights;
 };
 
-// A refusal's number, or 0 with the step, the new start and the leavers in rising order.
+// A refusal's number, or 0 with the step, the new start and the leavers by falling turnover.
 struct Turn {
     int refusal = 0;
     uint32_t step = 0;

@@ -37,9 +37,7 @@ uint64_t digest(const Panel& p) {
     return sum;
 }
 
-// The order of the leavers is free: they are sorted first.
-uint64_t digest(Turn t) {
-    std::sort(t.leavers.begin(), t.leavers.end());
+uint64_t digest(const Turn& t) {
     uint64_t sum = mixed(mixed(mixed(14695981039346656037u, t.refusal), t.step), t.start);
     for (uint32_t number : t.leavers) sum = mixed(sum, number);
     return sum;

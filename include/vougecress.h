@@ -6,7 +6,7 @@
  * number of document 01, with every other field of the answer 0 (34 alone comes with an offset); after a refusal every
  * lent list is as it was.
  * A null pointer is allowed where the count is 0. Lists that are lent to be written may not overlap other lists of the call.
- * No call asks for memory of its own but on the stack, of which it takes up to 256 KB. Nothing is kept between calls, so that
+ * No call asks for memory of its own but on the stack, of which it takes up to 640 KB. Nothing is kept between calls, so that
  * threads may call at once, each with its own lists.
  *
  * Compile and link: gcc program.c -Ibuild build/libvougecress.a, or, once it is installed (PREFIX=... ./install.sh),
@@ -190,8 +190,8 @@ struct vougecress_rotated {
 
 /*
  * Rotates an old panel (rising unit numbers, at most 100) by at least `fraction` thousandths of its members. Writes the unit
- * numbers of the leavers, in no promised order, into the first `count` places of `leavers`, which must be at least as long
- * as the old panel. Refusals 1 to 8.
+ * numbers of the leavers, by falling turnover in this frame and equal turnovers by lower unit number, into the first `count`
+ * places of `leavers`, which must be at least as long as the old panel; the other places stay. Refusals 1 to 8.
  */
 struct vougecress_rotated vougecress_rotate(const uint32_t *numbers, size_t numbers_count,
                                             const uint64_t *turnovers, size_t turnovers_count,

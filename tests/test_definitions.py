@@ -43,7 +43,7 @@ def take_all_cases(turnovers, z, marks):
 
 
 def rotation_cases(numbers, turnovers, randoms, z, old, panel, f, room):
-    told, leavers, _ = frame.rotate(numbers, turnovers, randoms, z, old, panel, f, room)
+    told, leavers = frame.rotate(numbers, turnovers, randoms, z, old, panel, f, room)
     lists = " ".join(map(number_list, (numbers, turnovers, randoms)))
     rest = f"(frame {lists}) {z} {old} {number_list(panel)} {f} {number_list(room)}"
     yield f"rotationAnswer {rest}", judged(told, fields(step="k", start="new_start", leaving="count"))
@@ -484,6 +484,8 @@ def edge_suite():
     yield from rotation_cases(*last)  # unit 5 leaves at the last step alone
     never = ([5, 8], [1_000, 1_000], [498_500, 498_500], 1, 500_000, [5], 1_000, [0])
     yield from rotation_cases(*never)  # 8: a tie that unit 5 wins at every start
+    phoned = ([1, 2, 3, 4, 5, 6], [10, 30, 20, 30, 25, 15], [100_000, 50_000, 150_000, 20_000, 900_000, 950_000])
+    yield from rotation_cases(*phoned, 1, 0, [1, 2, 3, 4], 1_000, [0] * 6)  # document 02's worked leavers
     drawn = [("unit", number, 5 * 10**6, number) for number in (1, 2, 3)] + [("draw", 2, 0)]
     for command in (("relative", 1, 100_000), ("relative", 2, 100_000), ("share", 1, 10_000), ("share", 2, 10_000)):
         yield from job_cases(drawn + [command, ("close",)])  # 18 at the panel's size

@@ -12,7 +12,7 @@ from itertools import islice
 import generate
 from independent import Refused
 from independent.chain import Direct, Figure, Record, Total, close, open_chain, quarter, total, within_bound
-from independent.frame import Drawn, Rotated, Taken, draw, rotate, same_leavers, take_all, take_all_entry
+from independent.frame import Drawn, Rotated, Taken, draw, rotate, take_all, take_all_entry
 from independent.stream import COMMANDS, END, Job, front_word, read_command, run, step
 from independent.sample import share
 from independent.register import BadLine, import_lists, line_number, units_of
@@ -37,8 +37,8 @@ def try_take_all(data):
 
 
 def try_rotate(data):
-    answer, leavers, buffer = rotate(**data)
-    return answer, leavers == [] and buffer == data["out_leavers"]
+    answer, leavers = rotate(**data)
+    return answer, leavers == data["out_leavers"]
 
 
 def try_open(data):
@@ -335,18 +335,23 @@ def steps_to_try(t, k):
 
 
 def law_of_rotation(t, case):
-    """A draw under the new start lacks exactly the leavers, and no step before it suffices."""
+    """A draw under the new start lacks exactly the leavers, which stand in order, and no step before it suffices."""
     data = case.data
-    answer, leavers, buffer = rotate(**data)
+    answer, buffer = rotate(**data)
     members = len(members_of(data))
     enough = min(count for count in range(members + 1) if 1_000 * count >= data["f"] * members)
     k = 1_000
     if isinstance(answer, Rotated):
         k = answer.k
         t.check(answer.new_start == (data["old_start"] + 1_000 * k) % 1_000_000, "the new start", case)
-        t.check(leavers == leavers_under(data, k), "the draw lacks exactly the leavers", case)
-        t.check(answer.count == len(leavers) >= enough, "as many as required", case)
-        t.check(same_leavers(buffer, data["out_leavers"], leavers), "the buffer", case)
+        leavers = buffer[: answer.count]
+        t.check(sorted(leavers) == leavers_under(data, k), "the draw lacks exactly the leavers", case)
+        t.check(answer.count >= enough, "as many as required", case)
+        t.check(buffer[answer.count :] == data["out_leavers"][answer.count :], "places beyond their count stay", case)
+        turnover = dict(zip(data["numbers"], data["turnovers"]))
+        for one, next_one in zip(leavers, leavers[1:]):
+            falls = turnover[one] > turnover[next_one] or turnover[one] == turnover[next_one] and one < next_one
+            t.check(falls, "by falling turnover, equal turnovers by lower unit number", case)
     for earlier in steps_to_try(t, k):
         short = len(leavers_under(data, earlier)) < enough
         t.check(short, f"step {earlier} does not suffice, {k} is answered", case)
@@ -361,12 +366,12 @@ def test_rotation_laws(t):
     t.check({0, 999, 1_000} <= steps and len(steps) > 20, "steps of all kinds occur", sorted(steps))
 
 
-def test_same_leavers(t):
-    before = [7, 8, 9, 6]
-    t.check(same_leavers([3, 2, 9, 6], before, [2, 3]), "any order")
-    t.check(not same_leavers([3, 3, 9, 6], before, [2, 3]), "each exactly once")
-    t.check(not same_leavers([2, 3, 4, 6], before, [2, 3]), "the rest stays")
-    t.check(not same_leavers([2, 3, 9], before, [2, 3]), "the length stays")
+def test_leavers_in_order(t):
+    """Document 02's worked case: units 2 and 4 have one turnover, the largest."""
+    lists = ([1, 2, 3, 4, 5, 6], [10, 30, 20, 30, 25, 15], [100_000, 50_000, 150_000, 20_000, 900_000, 950_000])
+    answer, leavers = rotate(*lists, 1, 0, [1, 2, 3, 4], 1_000, [0] * 6)
+    t.check(answer == Rotated(151, 151_000, 4), "the worked step", answer)
+    t.check(leavers == [2, 4, 3, 1, 0, 0], "the worked leavers", leavers)
 
 
 # Open, quarter, close

@@ -105,29 +105,12 @@ def near_rotations(seed, count):
 def test_near_rotate(t):
     """Rotations of the same frames, by a few starts."""
     for what, data in near_rotations(t.seed, t.count(1, 12)):
-        expected, leavers = rotation_of(data)
-        answer, buffer = library.rotate(**data)
-        t.check(answer == expected, "near keys: the library rotates alike", repeat=what)
-        t.check(frame.same_leavers(buffer, data["out_leavers"], leavers), "near keys: the same leavers", repeat=what)
-
-
-def rotation_of(data):
-    answer, leavers, _ = frame.rotate(**data)
-    return answer, leavers
+        t.check(library.rotate(**data) == frame.rotate(**data), "near keys: the library rotates alike", repeat=what)
 
 
 def test_rotate(t):
-    """The leavers' order is free, so the buffer is compared as a rearrangement."""
-    met = Counter()
-    for case in generate.rotate_cases(t.seed, t.count(150, 4_000)):
-        expected, leavers = rotation_of(case.data)
-        answer, buffer = library.rotate(**case.data)
-        met[expected.number if isinstance(expected, Refused) else 0] += 1
-        t.check(answer == expected, "rotate: the library answers as the independent computation", repeat=case)
-        same = frame.same_leavers(buffer, case.data["out_leavers"], leavers)
-        t.check(same, "rotate: the buffer holds the leavers, each once, and nothing else is touched", repeat=case)
-    for number in REFUSALS["rotate_cases"] | {0}:
-        t.check(met[number] > 0, f"rotate: refusal {number} (0: accepted) is met", repeat=dict(met))
+    """Answer and every place of the leavers' buffer."""
+    compared(t, "rotate_cases", 150, 4_000, lambda d: library.rotate(**d), lambda d: frame.rotate(**d))
 
 
 def test_leavers_are_not_drawn(t):

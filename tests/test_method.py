@@ -133,9 +133,8 @@ class Rotate(Example):
         numbers, turnovers, _ = register
         z, start, f = self.one("z"), self.one("start"), self.one("f")
         old, before = self.lists("old", "leavers")
-        answer, leavers, after = frame.rotate(*register, z, start, old, f, before)
-        ours, buffer = library.rotate(*register, z, start, old, f, before)
-        self.same((ours, frame.same_leavers(buffer, before, leavers)), (answer, True))
+        answer, after = frame.rotate(*register, z, start, old, f, before)
+        self.same(library.rotate(*register, z, start, old, f, before), (answer, after))
         if isinstance(answer, Refused):
             self.answers(answer, said("leavers", after))
         else:

@@ -571,13 +571,27 @@ def frame_a(rng, old_start, old_panel, f):
     }
 
 
-def hundred_members(rng, f):
+def hundred_members(rng, f, sizes=range(900, 1_100)):
     """An old panel of 100 in a frame of 300 units of about one size."""
-    data = {"numbers": list(range(300)), "turnovers": [rng.randrange(900, 1_100) for _ in range(300)]}
+    data = {"numbers": list(range(300)), "turnovers": [rng.choice(sizes) for _ in range(300)]}
     data.update(randoms=[rng.randrange(1_000_000) for _ in range(300)], z=100, old_start=999_000, f=f)
     data["old_panel"] = likely_panel(data, 999_000)
     data["out_leavers"] = junk(rng, 100, U32)
     return data
+
+
+def phoned(rng, turnovers, room):
+    """Document 02's worked leavers, units 1 to 4 of six, all to leave; other turnovers put them in another order."""
+    return {
+        "numbers": [1, 2, 3, 4, 5, 6],
+        "turnovers": turnovers,
+        "randoms": [100_000, 50_000, 150_000, 20_000, 900_000, 950_000],
+        "z": 1,
+        "old_start": 0,
+        "old_panel": [1, 2, 3, 4],
+        "f": 1_000,
+        "out_leavers": room or junk(rng, 5, U32),
+    }
 
 
 def two_equal_units(rng, first_random, second_random):
@@ -607,6 +621,12 @@ def special_rotations(rng):
     yield "999 thousandths ask for all", frame_a(rng, 0, [11, 13, 15], 999)
     yield "nothing asked, one leaves", frame_a(rng, 0, [12, 13], 0)
     yield "an old panel of 100", hundred_members(rng, 50)
+    yield "document 02's leavers", phoned(rng, [10, 30, 20, 30, 25, 15], [0] * 6)
+    yield "leavers that fall as they rise", phoned(rng, [30, 29, 28, 27, 25, 15], None)
+    yield "leavers that rise", phoned(rng, [20, 21, 22, 23, 25, 15], None)
+    yield "leavers of one size", phoned(rng, [25] * 6, None)
+    for sizes in ([1_000], [999, 1_000], range(900, 1_100)):
+        yield f"many leavers of {len(sizes)} sizes", hundred_members(rng, 500, sizes)
 
 
 @cases

@@ -206,15 +206,15 @@ def rotation_refusal(old_panel, f, out_leavers):
 
 
 def rotate(numbers, turnovers, randoms, z, old_start, old_panel, f, out_leavers):
-    """Answer, the leavers in rising order, and one allowed form of the buffer afterwards.
+    """Answer, and the leavers' buffer as it is afterwards.
 
-    Document 01 leaves the leavers' order free: compare with `same_leavers`.
+    Document 02, [1]: "Write leavers by falling turnover in the new frame, equal turnovers by lower unit number."
     """
     refusal = frame_refusal(numbers, turnovers, randoms, z, old_start)
     if refusal is None:
         refusal = rotation_refusal(old_panel, f, out_leavers)
     if refusal is not None:
-        return Refused(refusal), [], list(out_leavers)
+        return Refused(refusal), list(out_leavers)
     stratum = take_all(turnovers, z)
     # "members are old panel units that are in the frame and not take-all now"
     old = set(old_panel)
@@ -223,15 +223,8 @@ def rotate(numbers, turnovers, randoms, z, old_start, old_panel, f, out_leavers)
     for k in range(LAST_STEP + 1):
         start = (old_start + STEP * k) % CIRCLE
         stay = sampled(numbers, turnovers, randoms, start, stratum)
-        leavers = [numbers[i] for i in members if i not in stay]
+        leavers = [i for i in members if i not in stay]
         if len(leavers) >= required:
-            after = leavers + out_leavers[len(leavers):]
-            return Rotated(k, start, len(leavers)), leavers, after
-    return Refused(8), [], list(out_leavers)
-
-
-def same_leavers(buffer_after, buffer_before, leavers):
-    """Is the buffer a rearrangement of the leavers in its first places, the rest untouched?"""
-    count = len(leavers)
-    arranged = sorted(buffer_after[:count]) == sorted(leavers)
-    return arranged and buffer_after[count:] == buffer_before[count:]
+            phoned = [numbers[i] for i in by_falling_key(turnovers, leavers)]
+            return Rotated(k, start, len(leavers)), phoned + out_leavers[len(leavers):]
+    return Refused(8), list(out_leavers)

@@ -1,7 +1,7 @@
 // Rotation, on a lent frame, old panel and buffer.
 ghost use mathlib.Core.Path.{_≡_};
 ghost use Rattle.rules.specs.TakeAll.{frame};
-ghost use Rattle.rules.specs.Rotation.{rotationAnswer, rotationLeavers, Holds};
+ghost use Rattle.rules.specs.Rotation.{rotationAnswer, rotationLeavers};
 ghost use Rattle.c_rotation.specs.Answer.{rotatedFrom};
 
 // The answer of a rotation.
@@ -28,8 +28,8 @@ pub extern "C" fn vougecress_rotate(
         ⌜ r ≡ rotatedFrom (rotationAnswer (frame (now (numbers .entry)) (now (turnovers .entry)) (now (randoms .entry))) z old (now (panel .entry))
         fraction (now (leavers .entry))) ⌝ }
     ensures { λ _.
-        ⌜ Holds (rotationLeavers (frame (now (numbers .entry)) (now (turnovers .entry)) (now (randoms .entry))) z old (now (panel .entry)) fraction
-        (now (leavers .entry))) (now (leavers .entry)) (now (leavers .exit)) ⌝ }
+        ⌜ now (leavers .exit) ≡ rotationLeavers (frame (now (numbers .entry)) (now (turnovers .entry)) (now (randoms .entry))) z old (now (panel .entry))
+        fraction (now (leavers .entry)) ⌝ }
 {
     let answer = rotation::rotate(
         numbers,

@@ -5,12 +5,13 @@ use Prim.Native.Nat.{ℕ, _≤_}
 use lib.ListN.{length}
 use borrow.Author.Tests.{ltb-false}
 use Rattle.rules.specs.TakeAll.{Frame}
-use Rattle.rules.specs.Draw.{drawRefusal}
+use Rattle.rules.specs.Draw.{frameRefusal, drawRefusal}
 use Rattle.rules.proofs.Tests.{or-false}
 use Rattle.rules.proofs.Refusals.{refuse-none, then-none}
 use Rattle.frame.proofs.Accepted.{Accepted, accepted}
 
 pub record DrawAccepted (f : Frame) (z start : ℕ) (numbers weights : List ℕ) : Type 0 where
+  pub none : frameRefusal f z start ≡ 0
   pub frameOk : Accepted f z start
   pub numbersRoom : z ≤ length numbers
   pub weightsRoom : z ≤ length weights
@@ -21,4 +22,4 @@ unfolding drawRefusal
 draw-accepted f z start numbers weights e =
     let n = then-none _ _ e in
     let room = or-false _ _ (refuse-none _ 5 (n .1)) in
-    record { frameOk = accepted f z start (n .0); numbersRoom = ltb-false _ _ (room .0); weightsRoom = ltb-false _ _ (room .1) }
+    record { none = n .0; frameOk = accepted f z start (n .0); numbersRoom = ltb-false _ _ (room .0); weightsRoom = ltb-false _ _ (room .1) }

@@ -2,17 +2,18 @@
 -- panel with as many weights, and the panel's numbers rise. Cited from the laws over an arbitrary order, for the order by Pareto keys.
 use mathlib.Core.Path.{_≡_, _∙_}
 use mathlib.Core.Bool.{true, false}
-use Prim.Native.Nat.{ℕ, _*_, _<_}
+use Prim.Native.Nat.{ℕ, _+_, _*_, _≤_, _<_}
 use native.Mathlib.Omega.{arith}
 use lib.ListN.{length, getD}
 use Rattle.rules.specs.Lists.{rising}
 use Rattle.rules.specs.Selection.{count, byKey, listed}
-use Rattle.rules.specs.TakeAll.{Frame, Group, turnover, takeAllSize, takeAllGroup, baseWeight}
+use Rattle.rules.specs.TakeAll.{Frame, Group, turnover, takeAllGroup, baseWeight}
 use Rattle.rules.specs.Draw.{keyBelow, notTakeAll, sampledBy, drawnBy, panelNumbers, panelWeights, frameRefusal}
 use Rattle.frame.proofs.Accepted.{Accepted, accepted}
+use Rattle.group.specs.Group.{Sound}
+use Rattle.group.proofs.Accepted.{sound}
 use Rattle.draw_key.proofs.Keys.{by-keys}
 use Rattle.selection.proofs.Orders.{Order}
-use Rattle.selection.proofs.TakeAll.{outside-below}
 use Rattle.selection.proofs.Panel.{sampled-count, panel-count, panel-rises}
 use Rattle.selection.proofs.Sums.{listed-length}
 
@@ -23,18 +24,24 @@ module _ (f : Frame) (z start : ℕ) (none : frameRefusal f z start ≡ 0) where
   facts : Accepted f z start
   facts = accepted f z start none
 
+  sound-group : Sound (f .turnovers) z g
+  sound-group = sound (f .turnovers) z (facts .units .sizeWithin)
+
+  few : count (g .takesAll) (length (f .turnovers)) + g .sampleSize ≤ length (f .turnovers)
+  few = omega (arith, sound-group .parts, facts .units .sizeWithin)
+
   order : Order (notTakeAll g) (byKey (keyBelow f g start)) (length (f .turnovers))
   order = by-keys f start (length (f .turnovers)) (facts .units .positive) (facts .randomLow) (notTakeAll g) g
 
   -- exactly n units are sampled
   pub n-sampled : count (sampledBy f g start) (length (f .turnovers)) ≡ g .sampleSize
-  unfolding sampledBy takeAllGroup
-  n-sampled = sampled-count (f .turnovers) z (facts .units .sizeWithin) (byKey (keyBelow f g start)) order
+  unfolding sampledBy
+  n-sampled = sampled-count (g .takesAll) (byKey (keyBelow f g start)) (length (f .turnovers)) (g .sampleSize) few order
 
   -- exactly z are in the panel, each with its weight
   pub z-drawn : count (drawnBy f g start) (length (f .turnovers)) ≡ z
-  unfolding drawnBy sampledBy takeAllGroup
-  z-drawn = panel-count (f .turnovers) z (facts .units .sizeWithin) (byKey (keyBelow f g start)) order
+  unfolding drawnBy sampledBy
+  z-drawn = panel-count (g .takesAll) (byKey (keyBelow f g start)) (length (f .turnovers)) (g .sampleSize) few order ∙ sound-group .parts
 
   z-listed : (value : ℕ → ℕ) → length (listed (drawnBy f g start) value (length (f .turnovers))) ≡ z
   z-listed value = listed-length (drawnBy f g start) value (length (f .turnovers)) ∙ z-drawn
@@ -54,7 +61,5 @@ module _ (f : Frame) (z start : ℕ) (none : frameRefusal f z start ≡ 0) where
 
   -- outside take-all, where any is sampled, n × turnover < X: every key's numerator is what the formula says, with no cut at 0
   pub gap-positive :
-      takeAllSize (f .turnovers) z < z → (i : ℕ) → i < length (f .turnovers) → g .takesAll i ≡ false
-      → g .sampleSize * turnover (f .turnovers) i < g .rest
-  unfolding takeAllGroup
-  gap-positive l i li h = outside-below (f .turnovers) z (facts .units .sizeWithin) l i li h
+      0 < g .sampleSize → (i : ℕ) → i < length (f .turnovers) → g .takesAll i ≡ false → g .sampleSize * turnover (f .turnovers) i < g .rest
+  gap-positive = sound-group .below

@@ -1,30 +1,31 @@
 // A bound that parts the units with the smallest keys from the others, and what is asked of one: whether a key is near enough to be looked at, whether
 // a unit is within the bound, and the check of a bound that was searched for.
 use draw_fraction::Fraction;
+use draw_key::Setting;
 ghost use mathlib.Core.Path.{_≡_};
 ghost use mathlib.Core.Bool.{true};
-ghost use Prim.Native.Nat.{_+_, _*_, _/_, _≤_, _<_};
+ghost use Prim.Native.Nat.{_*_, _≤_, _<_};
 ghost use lib.ListN.{length};
 ghost use lib.Dec.{leb};
 ghost use Rattle.rules.specs.Limits.{mostTurnover, randomRange, mostPanel};
 ghost use Rattle.rules.specs.Draw.{fractionBelow};
+ghost use Rattle.selection.specs.Marked.{Placed};
 ghost use Rattle.draw_key.specs.Units.{Units, numOf};
-ghost use Rattle.draw_bound.specs.Bound.{near, within, passes, Reach, Placed, Apart, Checked, mostWord};
+ghost use Rattle.draw_bound.specs.Bound.{reachOf, near, within, passes, Apart, Checked, mostWord};
 
-// Units of a key of at most `reach`, by the whole part of key × scale: those below `part`, and of those at `part` the ones up to unit `last`.
+// Units of a key within reach, by the whole part of key × scale: those below `part`, and of those at `part` the ones up to unit `last`.
 pub struct Bound {
-    pub reach: u64,
     pub scale: u64,
     pub part: u64,
     pub last: usize,
 }
 
 // The reach for n units to sample: n and half as much again, and 8, so that a short list seldom has fewer than n of them.
-pub fn reach_of(n: u64) -> u64
+pub fn reach_of(n: usize) -> u64
     requires { ⌜ n ≤ mostPanel ⌝ }
-    ensures { λ r. ⌜ r ≡ n + n / 2 + 8 ⌝ }
+    ensures { λ r. ⌜ r ≡ reachOf n ⌝ }
 {
-    n + n / 2 + 8
+    (n + n / 2 + 8) as u64
 }
 
 // A key is at most `reach`. A key of 0 needs no product.
@@ -68,15 +69,15 @@ fn is_apart(
     turnovers: &[u64],
     randoms: &[u32],
     gaps: &[u64],
-    start: u32,
+    s: Setting,
     b: Bound,
     i: usize,
 ) -> bool
-    requires { ⌜ Units (now turnovers) (now randoms) (now gaps) start × (i < length (now turnovers)) × (b .last < length (now turnovers)) ⌝ }
-    ensures { λ r. ⌜ (r ≡ true → Apart (now (turnovers .entry)) (now (randoms .entry)) (now (gaps .entry)) start b i) ⌝ }
+    requires { ⌜ Units (now turnovers) (now randoms) (now gaps) s × (i < length (now turnovers)) × (b .last < length (now turnovers)) ⌝ }
+    ensures { λ r. ⌜ (r ≡ true → Apart (now (turnovers .entry)) (now (randoms .entry)) (now (gaps .entry)) s b i) ⌝ }
 {
-    let key = draw_key::unit_key(turnovers, randoms, gaps, start, i);
-    let last = draw_key::unit_key(turnovers, randoms, gaps, start, b.last);
+    let key = draw_key::unit_key(turnovers, randoms, gaps, s, i);
+    let last = draw_key::unit_key(turnovers, randoms, gaps, s, b.last);
     if i <= b.last {
         return !is_below(last, key);
     }
@@ -88,14 +89,14 @@ pub fn is_checked(
     turnovers: &[u64],
     randoms: &[u32],
     gaps: &[u64],
-    start: u32,
+    s: Setting,
     units: &[usize],
     parts: &[u64],
     b: Bound,
     z: usize,
 ) -> bool
-    requires { ⌜ Units (now turnovers) (now randoms) (now gaps) start × Placed (length (now turnovers)) (now units) × (length (now units) ≤ length (now parts)) ⌝ }
-    ensures { λ r. ⌜ (r ≡ true → Checked (now (turnovers .entry)) (now (randoms .entry)) (now (gaps .entry)) start (now (units .entry)) (now (parts .entry)) b z) ⌝ }
+    requires { ⌜ Units (now turnovers) (now randoms) (now gaps) s × Placed (length (now turnovers)) (now units) × (length (now units) ≤ length (now parts)) ⌝ }
+    ensures { λ r. ⌜ (r ≡ true → Checked (now (turnovers .entry)) (now (randoms .entry)) (now (gaps .entry)) s (now (units .entry)) (now (parts .entry)) b z) ⌝ }
 {
     if b.part == 0 {
         return false;
@@ -108,7 +109,7 @@ pub fn is_checked(
     while j < units.len() {
         let i = units[j];
         if parts[j] == b.part {
-            if !is_apart(turnovers, randoms, gaps, start, b, i) {
+            if !is_apart(turnovers, randoms, gaps, s, b, i) {
                 return false;
             }
         }
@@ -125,16 +126,17 @@ pub fn is_within(
     turnovers: &[u64],
     randoms: &[u32],
     gaps: &[u64],
-    start: u32,
+    s: Setting,
     b: Bound,
     i: usize,
 ) -> bool
-    requires { ⌜ Units (now turnovers) (now randoms) (now gaps) start × Reach (now turnovers) (now gaps) (b .reach) × (i < length (now turnovers)) ⌝ }
-    requires { ⌜ (near (now turnovers) (now randoms) (now gaps) start (b .reach) i ≡ true → numOf (now randoms) (now gaps) start i * b .scale ≤ mostWord) ⌝ }
-    ensures { λ r. ⌜ r ≡ within (now (turnovers .entry)) (now (randoms .entry)) (now (gaps .entry)) start b i ⌝ }
+    requires { ⌜ Units (now turnovers) (now randoms) (now gaps) s × (i < length (now turnovers)) ⌝ }
+    requires { ⌜ (near (now turnovers) (now randoms) (now gaps) s i ≡ true → numOf (now randoms) (now gaps) s i * b .scale ≤ mostWord) ⌝ }
+    ensures { λ r. ⌜ r ≡ within (now (turnovers .entry)) (now (randoms .entry)) (now (gaps .entry)) s b i ⌝ }
 {
-    let key = draw_key::unit_key(turnovers, randoms, gaps, start, i);
-    if !is_near(key, b.reach) {
+    let reach = reach_of(s.n);
+    let key = draw_key::unit_key(turnovers, randoms, gaps, s, i);
+    if !is_near(key, reach) {
         return false;
     }
     is_passed(b, key.num * b.scale / key.den, i)

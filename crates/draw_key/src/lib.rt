@@ -9,6 +9,13 @@ ghost use Rattle.rules.specs.Limits.{mostTurnover, randomRange, mostPanel};
 ghost use Rattle.rules.specs.Draw.{shifted, keyDenominator};
 ghost use Rattle.draw_key.specs.Units.{Units, UnitKey};
 
+// What every key of a draw reads besides its unit: the start s, the number n to sample and the rest turnover X.
+pub struct Setting {
+    pub start: u32,
+    pub n: usize,
+    pub rest: u64,
+}
+
 // A unit's random number as drawn, R: permanent, the same under every start.
 pub struct Permanent(pub u32);
 
@@ -54,11 +61,11 @@ pub fn key_over(turnover: u64, r: Shifted, gap: u64) -> Fraction
 }
 
 // The key of unit i, of which the gap is known.
-pub fn unit_key(turnovers: &[u64], randoms: &[u32], gaps: &[u64], start: u32, i: usize) -> Fraction
-    requires { ⌜ Units (now turnovers) (now randoms) (now gaps) start × (i < length (now turnovers)) ⌝ }
-    ensures { λ f. ⌜ UnitKey (now (turnovers .entry)) (now (randoms .entry)) (now (gaps .entry)) start i f ⌝ }
+pub fn unit_key(turnovers: &[u64], randoms: &[u32], gaps: &[u64], s: Setting, i: usize) -> Fraction
+    requires { ⌜ Units (now turnovers) (now randoms) (now gaps) s × (i < length (now turnovers)) ⌝ }
+    ensures { λ f. ⌜ UnitKey (now (turnovers .entry)) (now (randoms .entry)) (now (gaps .entry)) s i f ⌝ }
 {
     let random = Permanent(randoms[i]);
-    let shifted = random.shift(start);
+    let shifted = random.shift(s.start);
     key_over(turnovers[i], shifted, gaps[i])
 }

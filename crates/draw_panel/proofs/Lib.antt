@@ -1,4 +1,2 @@
-pub mod Panel
-pub mod Short
-pub mod Next
 pub mod Writing
+pub mod Sampled

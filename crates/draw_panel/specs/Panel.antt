@@ -1,41 +1,52 @@
--- What the writing of the panel asks for, keeps and leaves in the buffers.
-use mathlib.Core.Path.{_≡_}
+-- What the writing of the panel asks for, and what it writes.
+use mathlib.Core.Bool.{Bool, true, not}
 use mathlib.Core.List.{List}
-use Prim.Native.Nat.{ℕ, _+_, _≤_, _<_}
+use mathlib.Core.Path.{_≡_}
+use Prim.Native.Nat.{ℕ, _≤_, _<_}
 use lib.ListN.{length, getD}
-use Rattle.rules.specs.Refusals.{written}
-use Rattle.rules.specs.Selection.{listed, every}
-use Rattle.rules.specs.TakeAll.{frame, larger}
-use Rattle.rules.specs.Draw.{drawnBy, panelNumbers, panelWeights}
-use Rattle.selection.specs.Ranked.{Ranked}
-use Rattle.group.specs.declared.Group.{Group}
-use Rattle.group.specs.Group.{rulesGroup}
-use Rattle.draw_terms.specs.Terms.{unnumbered}
-use Rattle.draw_list.specs.declared.Found.{Found}
-use Rattle.draw_list.specs.Found.{passing, Passing}
-use Rattle.draw_order.specs.Sampling.{InKeyOrder}
+use lib.Dec.{eqb}
+use Rattle.rules.specs.Limits.{mostTurnover, mostPanel}
+use Rattle.rules.specs.Tests.{_or_}
+use Rattle.rules.specs.Lists.{sum}
+use Rattle.rules.specs.Selection.{count, listed}
+use Rattle.rules.specs.TakeAll.{baseWeight}
+use Rattle.group.specs.Group.{marked, rulesGroup}
+use Rattle.draw_key.specs.declared.Setting.{Setting}
+use Rattle.draw_key.specs.Units.{hasKey, sampledOf}
 
--- r is the smallest of the first `len` units that is `from` or higher, or `end` where none such is below it
-pub record Next (units : List ℕ) (len from end r : ℕ) : Type 0 where
-  pub within : r ≤ end
-  pub least : (k : ℕ) → k < len → from ≤ getD units k 0 → r ≤ getD units k 0
-  pub found : r < end → (k : ℕ) × (k < len) × (getD units k 0 ≡ r) × (from ≤ r)
+-- turnovers, marks and a setting by which a W fits 64 bits
+pub record Weighable (ts marks : List ℕ) (s : Setting) : Type 0 where
+  pub total : sum ts ≤ mostTurnover
+  pub size-low : s .n ≤ mostPanel
+  pub marks-room : length ts ≤ length marks
 
--- the two arrays that a panel is written from: the q largest units by turnover, and the n sampled by key
-pub record Arrays (ts rs : List ℕ) (g : Group) (start : ℕ) (large sampled : List ℕ) : Type 0 where
-  pub large-room : g .q ≤ length large
-  pub large-ranked : Ranked every (larger ts) (length ts) large (g .q)
-  pub sampled-room : g .n ≤ length sampled
-  pub sampled-ranked : InKeyOrder ts rs g start (length ts) sampled (g .n)
+-- W by the marks of the take-all group
+abbrev pub weightBy : List ℕ → List ℕ → Setting → ℕ → ℕ
+weightBy ts marks s = baseWeight ts (rulesGroup marks (s .n) (s .rest))
 
--- a short list whose units within the bound are the panel's
-pub record Draws (ts rs : List ℕ) (g : Group) (start : ℕ) (r : Found) : Type 0 where
-  pub list : Passing (length ts) r (g .q + g .n)
-  pub are : (f : ℕ → ℕ) → listed (passing r) (λ j. f (getD (r .units) j 0)) (r .count) ≡ listed (drawnBy (unnumbered ts rs) (rulesGroup ts g) start) f (length ts)
+-- unit i has any mark
+abbrev pub anyMark : List ℕ → ℕ → Bool
+anyMark marks i = not (eqb (getD marks i 0) 0)
 
--- the panel in the first places of a buffer: its unit numbers, and their W
-abbrev pub numbersOver : List ℕ → List ℕ → List ℕ → Group → ℕ → List ℕ → List ℕ
-numbersOver ns ts rs g start buffer = written 0 (panelNumbers (frame ns ts rs) (rulesGroup ts g) start) buffer
+-- how many have any, and f of those
+abbrev pub markedSize : List ℕ → List ℕ → ℕ
+markedSize ts marks = count (anyMark marks) (length ts)
 
-abbrev pub weightsOver : List ℕ → List ℕ → List ℕ → Group → ℕ → List ℕ → List ℕ
-weightsOver ns ts rs g start buffer = written 0 (panelWeights (frame ns ts rs) (rulesGroup ts g) start) buffer
+abbrev pub markedOf : List ℕ → List ℕ → (ℕ → ℕ) → List ℕ
+markedOf ts marks f = listed (anyMark marks) f (length ts)
+
+-- in the panel: take-all or sampled
+abbrev pub drawnOf : List ℕ → List ℕ → List ℕ → List ℕ → Setting → ℕ → Bool
+drawnOf ts rs gs marks s i = marked marks i or sampledOf ts rs gs s i
+
+-- how many are, and f of those
+abbrev pub panelSize : List ℕ → List ℕ → List ℕ → List ℕ → Setting → ℕ
+panelSize ts rs gs marks s = count (drawnOf ts rs gs marks s) (length ts)
+
+abbrev pub panelOf : List ℕ → List ℕ → List ℕ → List ℕ → Setting → (ℕ → ℕ) → List ℕ
+panelOf ts rs gs marks s f = listed (drawnOf ts rs gs marks s) f (length ts)
+
+-- marks of a group, 1 or 0 for each unit, and 0 for one with a key
+pub record Markable (ts gs marks : List ℕ) : Type 0 where
+  pub low : (i : ℕ) → i < length ts → getD marks i 0 ≤ 1
+  pub keyed : (i : ℕ) → i < length ts → hasKey gs i ≡ true → getD marks i 0 ≡ 0

@@ -1,96 +1,98 @@
-// The panel written out (document 01, "Draw"): unit numbers in rising order with their W, from the arrays of the take-all units and of the sampled ones.
-// Each step takes the next higher unit of the two, so that the frame itself is not gone through again. Who is sampled, asked of a few units only, is
-// module `told`.
+// The panel written out (document 01, "Draw"): unit numbers in rising order with their W, from a short list whose units within its bound are the panel, or
+// from marks over the frame. Who is sampled, asked of a few units only, is module `told`.
 pub mod told;
 
+use draw_key::Setting;
 use draw_list::Found;
-use group::Group;
+use limits::MOST_PANEL;
 ghost use mathlib.Core.Path.{_≡_};
-ghost use Prim.Native.Nat.{_+_, _<_, _≤_};
-ghost use lib.ListN.{length};
-ghost use Rattle.rules.specs.TakeAll.{baseWeight};
-ghost use Rattle.group.specs.Group.{rulesGroup};
-ghost use Rattle.draw_terms.specs.Terms.{Ready};
-ghost use Rattle.draw_panel.specs.Panel.{Next, Arrays, Draws, numbersOver, weightsOver};
+ghost use Prim.Native.Nat.{_<_, _≤_};
+ghost use lib.ListN.{length, getD};
+ghost use Rattle.rules.specs.Refusals.{written};
+ghost use Rattle.rules.specs.Selection.{count};
+ghost use Rattle.draw_key.specs.Units.{Units};
+ghost use Rattle.draw_list.specs.Found.{passing, foundOf, Passing};
+ghost use Rattle.draw_panel.specs.Panel.{Weighable, Markable, weightBy, markedSize, markedOf, panelSize, panelOf};
 
-// The smallest of the first len units that is `from` or higher, or `end` where none such is below it.
-fn next_unit(units: &[usize], len: usize, from: usize, end: usize) -> usize
-    requires { ⌜ len ≤ length (now units) ⌝ }
-    ensures { λ r. ⌜ Next (now (units .entry)) len from end r ⌝ }
-{
-    let mut next = end;
-    let mut k: usize = 0;
-    while k < len {
-        let unit = units[k];
-        if from <= unit {
-            if unit < next {
-                next = unit;
-            }
-        }
-        k += 1;
-    }
-    next
-}
+// The mark of a sampled unit; a take-all unit has 1.
+const SAMPLED: u8 = 2;
 
 // W of unit i: X for a sampled unit, n × its turnover for a take-all unit, and its turnover under cut-off.
-fn weight_of(turnovers: &[u64], randoms: &[u32], g: Group, start: u32, i: usize) -> u64
-    requires { ⌜ Ready (now turnovers) (now randoms) g start × (i < length (now turnovers)) ⌝ }
-    ensures { λ w. ⌜ w ≡ baseWeight (now (turnovers .entry)) (rulesGroup (now (turnovers .entry)) g) i ⌝ }
+fn weight_of(turnovers: &[u64], marks: &[u8], s: Setting, i: usize) -> u64
+    requires { ⌜ Weighable (now turnovers) (now marks) s × (i < length (now turnovers)) ⌝ }
+    ensures { λ w. ⌜ w ≡ weightBy (now (turnovers .entry)) (now (marks .entry)) s i ⌝ }
 {
-    if g.n == 0 {
+    if s.n == 0 {
         return turnovers[i];
     }
-    if group::takes_all(turnovers, g, i) {
-        return (g.n as u64) * turnovers[i];
+    if marks[i] == 1 {
+        return (s.n as u64) * turnovers[i];
     }
-    g.rest
+    s.rest
 }
 
-// Writes the panel, z units, into the first z places of the two buffers.
-pub fn write_panel(
+// Writes the units that have any mark: take-all units and sampled ones.
+pub fn write_marked(
     numbers: &[u32],
     turnovers: &[u64],
-    randoms: &[u32],
-    g: Group,
-    start: u32,
-    largest: &[usize],
-    sampled: &[usize],
+    marks: &[u8],
+    s: Setting,
     panel: &mut [u32],
     weights: &mut [u64],
 )
-    requires { ⌜ Ready (now turnovers) (now randoms) g start × Arrays (now turnovers) (now randoms) g start (now largest) (now sampled) ⌝ }
-    requires { ⌜ (length (now numbers) ≡ length (now turnovers)) × (g .q + g .n ≤ length (now panel)) × (g .q + g .n ≤ length (now weights)) ⌝ }
-    ensures { λ _. ⌜ now (panel .exit) ≡ numbersOver (now (numbers .entry)) (now (turnovers .entry)) (now (randoms .entry)) g start (now (panel .entry)) ⌝ }
-    ensures { λ _. ⌜ now (weights .exit) ≡ weightsOver (now (numbers .entry)) (now (turnovers .entry)) (now (randoms .entry)) g start (now (weights .entry)) ⌝ }
+    requires { ⌜ Weighable (now turnovers) (now marks) s × (length (now numbers) ≡ length (now turnovers)) ⌝ }
+    requires { ⌜ (markedSize (now turnovers) (now marks) ≤ length (now panel)) × (markedSize (now turnovers) (now marks) ≤ length (now weights)) ⌝ }
+    ensures { λ _. ⌜ now (panel .exit) ≡ written 0 (markedOf (now (turnovers .entry)) (now (marks .entry)) (λ i. getD (now (numbers .entry)) i 0)) (now (panel .entry)) ⌝ }
+    ensures { λ _. ⌜ now (weights .exit) ≡ written 0 (markedOf (now (turnovers .entry)) (now (marks .entry)) (weightBy (now (turnovers .entry)) (now (marks .entry)) s)) (now (weights .entry)) ⌝ }
 {
-    let size = g.q + g.n;
-    let mut from: usize = 0;
     let mut k: usize = 0;
-    while k < size {
-        let large = next_unit(largest, g.q, from, turnovers.len());
-        let i = next_unit(sampled, g.n, from, large);
-        panel[k] = numbers[i];
-        weights[k] = weight_of(turnovers, randoms, g, start, i);
-        from = i + 1;
-        k += 1;
+    let mut i: usize = 0;
+    while i < turnovers.len() {
+        if marks[i] != 0 {
+            panel[k] = numbers[i];
+            weights[k] = weight_of(turnovers, marks, s, i);
+            k += 1;
+        }
+        i += 1;
     }
 }
 
-// Writes the panel from what a short list found: the listed units within its bound are the panel, and they stand in the order of their numbers.
-pub fn write_found(
+// Writes the panel by putting the keys in order: where no short list decides. The sampled units get a mark of their own beside the take-all units.
+pub fn write_ordered(
     numbers: &[u32],
     turnovers: &[u64],
     randoms: &[u32],
-    g: Group,
-    start: u32,
+    gaps: &[u64],
+    s: Setting,
+    marks: &mut [u8],
+    panel: &mut [u32],
+    weights: &mut [u64],
+)
+    requires { ⌜ Units (now turnovers) (now randoms) (now gaps) s × Weighable (now turnovers) (now marks) s × Markable (now turnovers) (now gaps) (now marks) ⌝ }
+    requires { ⌜ (length (now numbers) ≡ length (now turnovers)) × (panelSize (now turnovers) (now randoms) (now gaps) (now marks) s ≤ length (now panel)) × (panelSize (now turnovers) (now randoms) (now gaps) (now marks) s ≤ length (now weights)) ⌝ }
+    ensures { λ _. ⌜ now (panel .exit) ≡ written 0 (panelOf (now (turnovers .entry)) (now (randoms .entry)) (now (gaps .entry)) (now (marks .entry)) s (λ i. getD (now (numbers .entry)) i 0)) (now (panel .entry)) ⌝ }
+    ensures { λ _. ⌜ now (weights .exit) ≡ written 0 (panelOf (now (turnovers .entry)) (now (randoms .entry)) (now (gaps .entry)) (now (marks .entry)) s (weightBy (now (turnovers .entry)) (now (marks .entry)) s)) (now (weights .entry)) ⌝ }
+{
+    let mut units = [0usize; MOST_PANEL];
+    draw_order::sampled_units(turnovers, randoms, gaps, s, &mut units);
+    selection::mark(&units[..s.n], SAMPLED, marks);
+    write_marked(numbers, turnovers, marks, s, panel, weights);
+}
+
+// Writes the units of a short list that are within its bound, in the order of their numbers.
+pub fn write_found(
+    numbers: &[u32],
+    turnovers: &[u64],
+    marks: &[u8],
+    s: Setting,
     found: Found,
     panel: &mut [u32],
     weights: &mut [u64],
 )
-    requires { ⌜ Ready (now turnovers) (now randoms) g start × Draws (now turnovers) (now randoms) g start found ⌝ }
-    requires { ⌜ (length (now numbers) ≡ length (now turnovers)) × (g .q + g .n ≤ length (now panel)) × (g .q + g .n ≤ length (now weights)) ⌝ }
-    ensures { λ _. ⌜ now (panel .exit) ≡ numbersOver (now (numbers .entry)) (now (turnovers .entry)) (now (randoms .entry)) g start (now (panel .entry)) ⌝ }
-    ensures { λ _. ⌜ now (weights .exit) ≡ weightsOver (now (numbers .entry)) (now (turnovers .entry)) (now (randoms .entry)) g start (now (weights .entry)) ⌝ }
+    requires { ⌜ Weighable (now turnovers) (now marks) s × (length (now numbers) ≡ length (now turnovers)) × Passing (length (now turnovers)) found ⌝ }
+    requires { ⌜ (count (passing found) (found .count) ≤ length (now panel)) × (count (passing found) (found .count) ≤ length (now weights)) ⌝ }
+    ensures { λ _. ⌜ now (panel .exit) ≡ written 0 (foundOf found (λ i. getD (now (numbers .entry)) i 0)) (now (panel .entry)) ⌝ }
+    ensures { λ _. ⌜ now (weights .exit) ≡ written 0 (foundOf found (weightBy (now (turnovers .entry)) (now (marks .entry)) s)) (now (weights .entry)) ⌝ }
 {
     let units = found.units;
     let parts = found.parts;
@@ -102,7 +104,7 @@ pub fn write_found(
         let i = units[j];
         if draw_bound::is_passed(bound, parts[j], i) {
             panel[k] = numbers[i];
-            weights[k] = weight_of(turnovers, randoms, g, start, i);
+            weights[k] = weight_of(turnovers, marks, s, i);
             k += 1;
         }
         j += 1;

@@ -1,53 +1,49 @@
 // Who is sampled under a start (document 01, "Draw"), for a caller that asks it of a few units: by the bound of a short list where that is sure, and
-// else by the last sampled unit.
+// else by the key of the last sampled unit.
 use draw_bound::Bound;
+use draw_fraction::Fraction;
+use draw_key::Setting;
 use draw_terms::Key;
-use draw_threshold::Threshold;
-use group::Group;
+use limits::MOST_PANEL;
 ghost use mathlib.Core.Path.{_≡_};
-ghost use Prim.Native.Nat.{_<_};
+ghost use Prim.Native.Nat.{_+_, _<_};
 ghost use lib.ListN.{length};
-ghost use Rattle.rules.specs.Draw.{sampledBy};
-ghost use Rattle.group.specs.Group.{rulesGroup};
-ghost use Rattle.draw_terms.specs.Terms.{unnumbered, Ready};
-ghost use Rattle.draw_terms.specs.Gaps.{Gaps};
+ghost use Rattle.rules.specs.Selection.{count};
+ghost use Rattle.draw_key.specs.Units.{Units, keyless, sampledOf};
 ghost use Rattle.draw_panel.specs.Telling.{Tells};
 
-// The bound, where it is sure; the threshold, where it is not.
+// The bound, where it is sure; the key of the last sampled unit, where it is not.
 pub struct Told {
     pub bound: Bound,
     pub sure: bool,
-    pub threshold: Threshold,
+    pub last: Key,
 }
 
-// What tells who is sampled under a start.
-pub fn tell(turnovers: &[u64], randoms: &[u32], gaps: &[u64], g: Group, start: u32) -> Told
-    requires { ⌜ Ready (now turnovers) (now randoms) g start × Gaps (now turnovers) g (now gaps) ⌝ }
-    ensures { λ s. ⌜ Tells (now (turnovers .entry)) (now (randoms .entry)) (now (gaps .entry)) g start s ⌝ }
+// What tells who is sampled under a start; z is the number of units without a key and of those to sample.
+pub fn tell(turnovers: &[u64], randoms: &[u32], gaps: &[u64], s: Setting, z: usize) -> Told
+    requires { ⌜ Units (now turnovers) (now randoms) (now gaps) s × (0 < s .n → count (keyless (now gaps)) (length (now turnovers)) + s .n ≡ z) ⌝ }
+    ensures { λ t. ⌜ Tells (now (turnovers .entry)) (now (randoms .entry)) (now (gaps .entry)) s t ⌝ }
 {
-    let reach = draw_bound::reach_of(g.n as u64);
-    let found = draw_list::find(turnovers, randoms, gaps, start, reach, g.q + g.n);
+    let found = draw_list::find(turnovers, randoms, gaps, s, z);
     let bound = found.bound;
     if found.sure {
-        let none = Threshold {
+        let none = Key {
             unit: 0,
-            key: Key {
-                num: 0,
-                den: 1,
-                whole: 0,
-            },
+            terms: Fraction { num: 0, den: 1 },
+            whole: 0,
         };
         return Told {
             bound,
             sure: true,
-            threshold: none,
+            last: none,
         };
     }
-    let threshold = draw_threshold::last_sampled(turnovers, randoms, gaps, g, start);
+    let mut units = [0usize; MOST_PANEL];
+    let last = draw_order::sampled_units(turnovers, randoms, gaps, s, &mut units);
     Told {
         bound,
         sure: false,
-        threshold,
+        last,
     }
 }
 
@@ -56,22 +52,20 @@ pub fn is_sampled(
     turnovers: &[u64],
     randoms: &[u32],
     gaps: &[u64],
-    g: Group,
-    start: u32,
-    s: Told,
+    s: Setting,
+    t: Told,
     i: usize,
 ) -> bool
-    requires { ⌜ Ready (now turnovers) (now randoms) g start × Gaps (now turnovers) g (now gaps) × (i < length (now turnovers)) ⌝ }
-    requires { ⌜ Tells (now turnovers) (now randoms) (now gaps) g start s ⌝ }
-    ensures { λ r. ⌜ r ≡ sampledBy (unnumbered (now (turnovers .entry)) (now (randoms .entry))) (rulesGroup (now (turnovers .entry)) g) start i ⌝ }
+    requires { ⌜ Units (now turnovers) (now randoms) (now gaps) s × Tells (now turnovers) (now randoms) (now gaps) s t × (i < length (now turnovers)) ⌝ }
+    ensures { λ r. ⌜ r ≡ sampledOf (now (turnovers .entry)) (now (randoms .entry)) (now (gaps .entry)) s i ⌝ }
 {
-    let threshold = s.threshold;
-    if !s.sure {
-        return draw_threshold::is_sampled(turnovers, randoms, gaps, g, start, threshold, i);
+    let last = t.last;
+    if !t.sure {
+        return draw_order::is_sampled(turnovers, randoms, gaps, s, last, i);
     }
     if gaps[i] == 0 {
         return false;
     }
-    let bound = s.bound;
-    draw_bound::is_within(turnovers, randoms, gaps, start, bound, i)
+    let bound = t.bound;
+    draw_bound::is_within(turnovers, randoms, gaps, s, bound, i)
 }

@@ -1,3 +1,1 @@
-pub mod ByGaps
 pub mod Terms
-pub mod Accepted

@@ -1,35 +1,14 @@
 // Take-all as an entry of its own (document 01, "Frame and weights"; 001, section 2.3): its refusals, its answer, and a mark for each unit.
-use group::Group;
 use refusals::Refusal;
 use refusals::Verdict;
 ghost use mathlib.Core.Path.{_≡_};
-ghost use Prim.Native.Nat.{_≤_};
-ghost use lib.ListN.{length};
-ghost use Rattle.rules.specs.Refusals.{written};
 ghost use Rattle.rules.specs.TakeAll.{takeAllRefusal, takeAllAnswer, takeAllMarks};
 ghost use Rattle.refusals.specs.Number.{verdictOf};
-ghost use Rattle.group.specs.Group.{LastOf};
-ghost use Rattle.group_entry.specs.Answer.{answerFrom, marksOf};
+ghost use Rattle.group_entry.specs.Answer.{answerFrom};
 
 pub enum Answer {
     Taken { q: usize, n: usize, rest: u64 },
     Refused(Refusal),
-}
-
-// A mark for each unit, 1 in the group and 0 outside.
-fn mark(turnovers: &[u64], g: Group, marks: &mut [u8])
-    requires { ⌜ (length (now turnovers) ≤ length (now marks)) × LastOf (now turnovers) (g .q) (g .last) ⌝ }
-    ensures { λ _. ⌜ now (marks .exit) ≡ written 0 (marksOf (now (turnovers .entry)) (g .q)) (now (marks .entry)) ⌝ }
-{
-    let mut i: usize = 0;
-    while i < turnovers.len() {
-        if group::takes_all(turnovers, g, i) {
-            marks[i] = 1;
-        } else {
-            marks[i] = 0;
-        }
-        i += 1;
-    }
 }
 
 // Refusals 1, 3, 5 and 6: the lowest that applies.
@@ -60,8 +39,7 @@ pub fn take_all(turnovers: &[u64], z: usize, marks: &mut [u8]) -> Answer
     match verdict {
         Verdict::Refused(why) => Answer::Refused(why),
         Verdict::Accepted => {
-            let g = group::find_group(turnovers, z);
-            mark(turnovers, g, marks);
+            let g = group::find_group(turnovers, z, marks);
             Answer::Taken {
                 q: g.q,
                 n: g.n,

@@ -1,52 +1,42 @@
 -- A rotation that refusals 1 to 7 let pass, put together from what its callees ensure: the group, the members, the first step, and the
 -- leavers at its start are those of the definition.
-use mathlib.Core.Path.{_≡_, refl, sym, _∙_}
-use mathlib.Core.Bool.{Bool}
-use mathlib.Core.List.{List, []}
+use mathlib.Core.Path.{_≡_, refl, sym, ap, _∙_}
+use mathlib.Core.List.{List}
 use Prim.Native.Nat.{ℕ, _≤_, _<_}
-use native.Mathlib.Omega.{arith}
 use lib.Dec.{leb}
-use lib.ListN.{length, getD}
+use lib.ListN.{length}
 use borrow.Author.Tests.{le-leb, lt-leb}
 use Rattle.rules.specs.Limits.{steps}
 use Rattle.rules.specs.Refusals.{Judged, refuse, _then_, written}
-use Rattle.rules.specs.Selection.{every}
+use Rattle.rules.specs.Selection.{listed}
 use Rattle.rules.specs.TakeAll.{Frame, frame, takeAllGroup}
 use Rattle.rules.specs.Draw.{frameRefusal}
-use Rattle.rules.specs.Rotation.{member, required, startAt, leaves, leastStep, leavers, oldPanelRefusal, rotationRefusal, rotationAnswer, rotationLeavers}
+use Rattle.rules.specs.Rotation.{required, startAt, leastStep, leavers, oldPanelRefusal, rotationRefusal, rotationAnswer, rotationLeavers}
 use Rattle.rules.proofs.Refusals.{then-none, then-goes, then-assoc}
 use Rattle.refusals.specs.declared.Refusal.{Refusal}
 use Rattle.refusals.specs.Number.{numberOf}
 use Rattle.refusals.proofs.Numbers.{number-is-suc}
 use Rattle.refusals.proofs.Answers.{stops-by}
 use Rattle.frame.proofs.Accepted.{Accepted, accepted}
-use Rattle.selection.proofs.Sums.{count-every, count-le, listed-length}
 use Rattle.group.specs.declared.Group.{Group}
-use Rattle.group.specs.Group.{rulesGroup, IsGroup}
-use Rattle.group.proofs.Accepted.{group-is}
-use Rattle.draw_terms.specs.Gaps.{Gaps}
-use Rattle.draw_terms.proofs.Accepted.{ready}
-use Rattle.rotation_members.specs.declared.Places.{Places}
-use Rattle.rotation_members.specs.Places.{PlacesOf}
-use Rattle.rotation_members.proofs.Held.{hold-most, place-low}
+use Rattle.group.specs.Group.{IsGroup, Sound}
+use Rattle.group.proofs.Accepted.{sound}
+use Rattle.draw_key.specs.declared.Setting.{Setting}
+use Rattle.draw_gaps.specs.Gaps.{Gaps}
+use Rattle.draw_gaps.proofs.Bridge.{units-of, keyless-size, sampled-is}
+use Rattle.rotation_members.specs.Members.{memberBy}
 use Rattle.rotation_judge.proofs.Accepted.{OldAccepted, old-accepted}
-use Rattle.rotation_step.specs.Leaving.{LeaversOf, memberLeaves, firstStep, inPlaceOrder}
-use Rattle.rotation_step.specs.Search.{Within, Searched}
-use Rattle.rotation.specs.Answer.{leaversOver}
-use Rattle.rotation.proofs.Members.{first-is, leavers-held, leavers-are}
-
-within : (mark : ℕ → Bool) (n : ℕ) (m : Places) → PlacesOf mark n m → Within n m
-within mark n m p = record { most = hold-most mark (λ i. i) n m p; low = λ j l. place-low mark n m p j l }
-
-in-order-length : (ns : List ℕ) (r : Places) → r .count ≡ length (inPlaceOrder ns r)
-unfolding inPlaceOrder
-in-order-length ns r = sym (listed-length every (λ j. getD ns (getD (r .places) j 0) 0) (r .count) ∙ count-every (r .count))
+use Rattle.rotation_step.specs.Leaving.{under, settingAt, leaving, firstStep}
+use Rattle.rotation_step.specs.Search.{Searched}
+use Rattle.rotation_leavers.specs.Leavers.{unitsInOrder, numbersOf}
+use Rattle.rotation_leavers.proofs.Leavers.{numbers-length, in-order-many}
+use Rattle.rotation.proofs.Members.{Told, member-low, first-is, leavers-are}
 
 -- one of 1 to 7 stops it
 pub refused-early :
     (f : Frame) (z old : ℕ) (panel : List ℕ) (fraction : ℕ) (buffer : List ℕ) (why : Refusal)
     → numberOf why ≡ (frameRefusal f z old then oldPanelRefusal panel fraction buffer)
-    → (Judged.refused (numberOf why) ≡ rotationAnswer f z old panel fraction buffer) × (buffer ≡ leaversOver f z old panel fraction buffer)
+    → (Judged.refused (numberOf why) ≡ rotationAnswer f z old panel fraction buffer) × (buffer ≡ rotationLeavers f z old panel fraction buffer)
 unfolding rotationAnswer rotationLeavers rotationRefusal
 refused-early f z old panel fraction buffer why e =
     let stopped : numberOf why ≡ rotationRefusal f z old panel fraction buffer = stops-by why _ _ e ∙ then-assoc _ _ _ in
@@ -68,38 +58,55 @@ module _ (ns ts rs : List ℕ) (z old : ℕ) (panel : List ℕ) (fraction : ℕ)
   unfolding rotationRefusal
   left-over = sym (then-assoc _ _ _) ∙ then-goes _ _ none
 
-  module _ (g : Group) (is : IsGroup ts z g) (m : Places) (h : PlacesOf (member (frame ns ts []) (rulesGroup ts g) panel) (length ts) m) where
-    pub searched : (gs : List ℕ) → Gaps ts g gs → Searched ts rs gs g m
-    searched gs w = record { ready = λ start low. ready f z old start g frame-ok is low; gaps = w; held = within _ (length ts) m h }
+  -- the group by its marks, the gaps, and the members' places
+  module _ (marks : List ℕ) (g : Group) (is : IsGroup ts z marks g) (gs : List ℕ) (filled : Gaps ts marks (g .n) (g .rest) gs)
+      (ms : List ℕ) (h : ms ≡ listed (memberBy ns marks panel) (λ i. i) (length ns)) where
+    abbrev setting : Setting
+    setting = record { start = old; n = g .n; rest = g .rest }
 
-    -- those who leave under a start are units of the frame, and no more than the members
-    module _ (start : ℕ) (r : Places) (l : LeaversOf (frame [] ts rs) (rulesGroup ts g) m start r) where
-      left : PlacesOf (leaves f (rulesGroup ts g) panel start) (length ts) r
-      left = leavers-held ns ts rs (rulesGroup ts g) panel m h start r l
+    group-sound : Sound ts z (takeAllGroup ts z)
+    group-sound = sound ts z (frame-ok .units .sizeWithin)
 
-      pub left-within : Within (length ns) r
-      left-within = rw (frame-ok .numbersLength) (within _ (length ts) r left)
+    told : Told ns ts rs (takeAllGroup ts z) panel marks gs setting ms
+    told = record {
+      same = frame-ok .numbersLength;
+      takes = is .agrees .takes;
+      sampled = λ start i l. sampled-is f (under setting start) group-sound (is .agrees) filled i l;
+      listed-are = h;
+    }
 
-      pub left-fewer : r .count ≤ m .count
-      left-fewer = omega (arith, l .many, count-le (memberLeaves (frame [] ts rs) (rulesGroup ts g) (m .places) start) (m .count))
+    pub searched : Searched ts rs gs ms setting z
+    searched = record {
+      units = units-of f setting group-sound (is .agrees) filled frame-ok (frame-ok .startLow);
+      sized = keyless-size f setting group-sound (is .agrees) filled;
+      low = member-low _ _ _ _ _ _ _ _ _ told;
+    }
 
-    module _ (k need : ℕ) (first : k ≡ firstStep (frame [] ts rs) (rulesGroup ts g) m old need) (n : need ≡ required fraction (m .count)) where
+    module _ (k need : ℕ) (first : k ≡ firstStep ts rs gs ms setting need) (n : need ≡ required fraction (length ms)) where
       step-is : leastStep f (takeAllGroup ts z) old panel fraction ≡ k
-      step-is = rw (← group-is ts z g is, first, n) (sym (first-is ns ts rs (rulesGroup ts g) panel m h old fraction))
+      step-is = rw (first, n) (sym (first-is _ _ _ _ _ _ _ _ _ told fraction))
 
       -- no step is enough
-      pub turn-refused : steps ≤ k → (Judged.refused 8 ≡ rotationAnswer f z old panel fraction buffer) × (buffer ≡ leaversOver f z old panel fraction buffer)
+      pub turn-refused : steps ≤ k → (Judged.refused 8 ≡ rotationAnswer f z old panel fraction buffer) × (buffer ≡ rotationLeavers f z old panel fraction buffer)
       unfolding rotationAnswer rotationLeavers refuse
       turn-refused l = rw (left-over, step-is, le-leb steps k l) (refl, refl)
 
-      -- step k is the first that is enough, and r are those who leave at its start
-      module _ (start : ℕ) (s : start ≡ startAt old k) (r : Places) (l : LeaversOf (frame [] ts rs) (rulesGroup ts g) m start r) where
-        leavers-at : leavers f (takeAllGroup ts z) panel (startAt old k) ≡ inPlaceOrder ns r
-        leavers-at = rw (← group-is ts z g is, ← s) (sym (leavers-are ns ts rs (rulesGroup ts g) panel m h start r (left start r l)))
+      -- step k is the first that is enough, and those who leave at its start are written
+      module _ (at : Setting) (s : at ≡ settingAt setting k) where
+        abbrev units : List ℕ
+        units = unitsInOrder ts rs gs ms at
+
+        leavers-at : leavers f (takeAllGroup ts z) panel (startAt old k) ≡ numbersOf ns units
+        leavers-at = rw s (sym (leavers-are _ _ _ _ _ _ _ _ _ told (startAt old k)))
+
+        many-at : leaving ts rs gs ms at ≡ length (numbersOf ns units)
+        many-at = sym (numbers-length ns units ∙ in-order-many ts rs gs ms at)
 
         pub turn-given :
-            k < steps → (after : List ℕ) → after ≡ written 0 (inPlaceOrder ns r) buffer
-            → (Judged.given (record { step = k; start = start; leaving = r .count }) ≡ rotationAnswer f z old panel fraction buffer)
-            × (after ≡ leaversOver f z old panel fraction buffer)
+            k < steps → (count : ℕ) → count ≡ leaving ts rs gs ms at → (after : List ℕ) → after ≡ written 0 (numbersOf ns units) buffer
+            → (Judged.given (record { step = k; start = at .start; leaving = count }) ≡ rotationAnswer f z old panel fraction buffer)
+            × (after ≡ rotationLeavers f z old panel fraction buffer)
         unfolding rotationAnswer rotationLeavers refuse
-        turn-given low after w = rw (left-over, step-is, lt-leb steps k low, leavers-at, ← s) (rw (← in-order-length ns r), w)
+        turn-given low count c after w =
+            let there : at .start ≡ startAt old k = ap (λ (x : Setting). x .start) s in
+            rw (left-over, step-is, lt-leb steps k low, leavers-at, ← there) (rw (c, many-at), w)

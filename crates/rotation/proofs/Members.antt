@@ -1,47 +1,81 @@
--- A step looks at the members alone: who of them leaves, how many, the first step at which enough do, and the list of leavers are those of
--- `rules`, which look at the whole frame.
-use mathlib.Core.Path.{_≡_}
+-- A step looks at the members alone, and at keys over gaps: who of them leaves, how many, the first step at which enough do, and the list of leavers
+-- are those of `rules`, which look at the whole frame and its keys. The group of `rules` is any that the marks tell.
+use mathlib.Core.Path.{_≡_, ap, _∙_}
 use mathlib.Core.Bool.{not}
-use mathlib.Core.List.{List, []}
-use Prim.Native.Nat.{ℕ}
+use mathlib.Core.List.{List}
+use Prim.Native.Nat.{ℕ, _<_}
 use lib.ListN.{length, getD}
+use lib.Seq.{take-length}
 use Rattle.rules.specs.Limits.{steps}
-use Rattle.rules.specs.Selection.{count}
+use Rattle.rules.specs.Selection.{count, listed}
 use Rattle.rules.specs.TakeAll.{Frame, Group, frame}
-use Rattle.rules.specs.Draw.{sampledBy, keyBelow}
+use Rattle.rules.specs.Draw.{sampledBy}
 use Rattle.rules.specs.Rotation.{member, members, required, startAt, leaves, suffices, leastStep, leavers}
+use Rattle.selection.specs.Held.{Held}
+use Rattle.selection.proofs.Held.{held-again, held-count}
 use Rattle.selection.proofs.Least.{least-same}
-use Rattle.rotation_members.specs.declared.Places.{Places}
-use Rattle.rotation_members.specs.Places.{PlacesOf}
-use Rattle.rotation_members.proofs.Held.{count-held, listed-all, holding-both}
-use Rattle.rotation_step.specs.Leaving.{LeaversOf, memberLeaves, leaving, enoughLeave, firstStep, inPlaceOrder}
+use Rattle.selection.proofs.Listed.{listed-low, listed-same}
+use Rattle.selection.proofs.Sums.{sum-same, listed-length}
+use Rattle.group.specs.Group.{marked}
+use Rattle.draw_key.specs.declared.Setting.{Setting}
+use Rattle.draw_key.specs.Units.{sampledOf}
+use Rattle.rotation_members.specs.Members.{memberBy}
+use Rattle.rotation_step.specs.Leaving.{under, memberLeaves, leaving, enoughLeave, firstStep}
+use Rattle.rotation_leavers.specs.Leavers.{leavingUnits, unitsInOrder, numbersOf}
 
-module _ (ns ts rs : List ℕ) (g : Group) (panel : List ℕ) (m : Places) (h : PlacesOf (member (frame ns ts []) g panel) (length ts) m) where
-  -- the whole frame; members read no random number of it, keys no unit number
+-- what the marks, the gaps and the list of the members' places tell of a frame and its group
+pub record Told (ns ts rs : List ℕ) (r : Group) (panel marks gs : List ℕ) (s : Setting) (ms : List ℕ) : Type 0 where
+  pub same : length ns ≡ length ts
+  pub takes : (i : ℕ) → i < length ts → marked marks i ≡ r .takesAll i
+  pub sampled : (start i : ℕ) → i < length ts → sampledOf ts rs gs (under s start) i ≡ sampledBy (frame ns ts rs) r start i
+  pub listed-are : ms ≡ listed (memberBy ns marks panel) (λ i. i) (length ns)
+
+module _ (ns ts rs : List ℕ) (r : Group) (panel marks gs : List ℕ) (s : Setting) (ms : List ℕ) (t : Told ns ts rs r panel marks gs s ms) where
   abbrev f : Frame
   f = frame ns ts rs
 
-  pub members-many : m .count ≡ members f g panel
-  unfolding members member
-  members-many = h .many
+  members-are : ms ≡ listed (member f r panel) (λ i. i) (length ts)
+  unfolding memberBy member
+  members-are =
+      t .listed-are
+      ∙ ap (listed (memberBy ns marks panel) (λ i. i)) (t .same)
+      ∙ listed-same (memberBy ns marks panel) (member f r panel) (λ i. i) (length ts) (λ i l. rw (t .takes i l))
 
-  pub leaving-is : (start : ℕ) → leaving (frame [] ts rs) g m start ≡ count (leaves f g panel start) (length ts)
-  unfolding leaving memberLeaves leaves member sampledBy keyBelow
-  leaving-is start = count-held (member (frame ns ts []) g panel) (λ i. not (sampledBy f g start i)) (length ts) m h
+  members-many : length ms ≡ members f r panel
+  unfolding members
+  members-many = ap length members-are ∙ listed-length (member f r panel) (λ i. i) (length ts)
 
-  -- the members that leave, held in their turn, are the leavers, and so are their numbers
-  pub leavers-held : (start : ℕ) (r : Places) → LeaversOf (frame [] ts rs) g m start r → PlacesOf (leaves f g panel start) (length ts) r
-  unfolding memberLeaves leaves member sampledBy keyBelow
-  leavers-held start r l = holding-both (member (frame ns ts []) g panel) (λ i. not (sampledBy f g start i)) (length ts) m h r l
+  held : Held (member f r panel) (λ i. i) (length ts) ms (length ms)
+  unfolding members
+  held = record { many = members-many; units-are = take-length ms ∙ members-are }
 
-  pub leavers-are : (start : ℕ) (r : Places) → PlacesOf (leaves f g panel start) (length ts) r → inPlaceOrder ns r ≡ leavers f g panel start
-  unfolding inPlaceOrder leavers
-  leavers-are start r l = listed-all (leaves f g panel start) (λ i. getD ns i 0) (length ts) r l
+  pub member-low : (j : ℕ) → j < length ms → getD ms j 0 < length ts
+  member-low = rw members-are (listed-low (member f r panel) (length ts))
 
-  suffices-is : (old fraction k : ℕ) → enoughLeave (frame [] ts rs) g m old (required fraction (m .count)) k ≡ suffices f g old panel fraction k
+  -- under any start
+  module _ (start : ℕ) where
+    leaves-at : (j : ℕ) → j < length ms → memberLeaves ts rs gs ms (under s start) j ≡ not (sampledBy f r start (getD ms j 0))
+    unfolding memberLeaves
+    leaves-at j l = ap not (t .sampled start (getD ms j 0) (member-low j l))
+
+    leaving-is : leaving ts rs gs ms (under s start) ≡ count (leaves f r panel start) (length ts)
+    unfolding leaving leaves count
+    leaving-is = sum-same _ _ (λ j. 1) (length ms) leaves-at ∙ held-count held (λ i. not (sampledBy f r start i))
+
+    units-are : leavingUnits ts rs gs ms (under s start) ≡ listed (leaves f r panel start) (λ i. i) (length ts)
+    unfolding leavingUnits leaves
+    units-are = listed-same _ _ (λ j. getD ms j 0) (length ms) leaves-at ∙ held-again held (λ i. not (sampledBy f r start i)) (λ i. i)
+
+    pub leavers-are : numbersOf ns (unitsInOrder ts rs gs ms (under s start)) ≡ leavers f r panel start
+    unfolding numbersOf unitsInOrder leavers
+    leavers-are = rw units-are
+
+  suffices-is : (fraction k : ℕ) → enoughLeave ts rs gs ms s (required fraction (length ms)) k ≡ suffices f r (s .start) panel fraction k
   unfolding enoughLeave suffices
-  suffices-is old fraction k = rw (leaving-is (startAt old k), members-many)
+  suffices-is fraction k = rw (leaving-is (startAt (s .start) k), members-many)
 
-  pub first-is : (old fraction : ℕ) → firstStep (frame [] ts rs) g m old (required fraction (m .count)) ≡ leastStep f g old panel fraction
+  pub first-is : (fraction : ℕ) → firstStep ts rs gs ms s (required fraction (length ms)) ≡ leastStep f r (s .start) panel fraction
   unfolding firstStep leastStep
-  first-is old fraction = least-same (enoughLeave (frame [] ts rs) g m old (required fraction (m .count))) (suffices f g old panel fraction) steps 0 (suffices-is old fraction)
+  first-is fraction =
+      let need = required fraction (length ms) in
+      least-same (enoughLeave ts rs gs ms s need) (suffices f r (s .start) panel fraction) steps 0 (suffices-is fraction)

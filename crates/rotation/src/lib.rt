@@ -1,6 +1,7 @@
 // Rotation (document 01, "Rotation"): the smallest step of the start at which enough members leave the panel, and who leaves. The
-// take-all group, the units' gaps and the members do not depend on the start and are found once; what a step does is crate `rotation_step`.
-use draw_terms::gaps;
+// take-all group, the units' gaps and the members do not depend on the start and are found once; what a step does is crate `rotation_step`,
+// who leaves at the step that is found crate `rotation_leavers`.
+use draw_key::Setting;
 use limits::FRACTION_SCALE;
 use limits::MOST_FRAME;
 use limits::STEPS;
@@ -8,12 +9,12 @@ use refusals::Refusal;
 use refusals::Verdict;
 ghost use mathlib.Core.Path.{_≡_};
 ghost use Prim.Native.Nat.{_≤_};
-ghost use Rattle.rules.specs.Limits.{mostPanel, fractionScale};
+ghost use Rattle.rules.specs.Limits.{mostFrame, fractionScale};
 ghost use Rattle.rules.specs.Refusals.{_then_};
 ghost use Rattle.rules.specs.TakeAll.{frame};
 ghost use Rattle.rules.specs.Draw.{frameRefusal};
-ghost use Rattle.rules.specs.Rotation.{required, oldPanelRefusal, rotationAnswer, rotationLeavers, Holds};
-ghost use Rattle.rotation.specs.Answer.{answerFrom, leaversOver};
+ghost use Rattle.rules.specs.Rotation.{required, oldPanelRefusal, rotationAnswer, rotationLeavers};
+ghost use Rattle.rotation.specs.Answer.{answerFrom};
 
 pub enum Answer {
     Rotated { k: u32, start: u32, count: usize },
@@ -22,7 +23,7 @@ pub enum Answer {
 
 // "f × members / 1,000, rounded up"
 fn required(fraction: u32, members: usize) -> usize
-    requires { ⌜ (fraction ≤ fractionScale) × (members ≤ mostPanel) ⌝ }
+    requires { ⌜ (fraction ≤ fractionScale) × (members ≤ mostFrame) ⌝ }
     ensures { λ r. ⌜ r ≡ required fraction members ⌝ }
 {
     let thousandths = (fraction as usize) * members;
@@ -43,29 +44,44 @@ fn turn(
 ) -> Answer
     requires { ⌜ (frameRefusal (frame (now numbers) (now turnovers) (now randoms)) z old then oldPanelRefusal (now panel) fraction (now leavers)) ≡ 0 ⌝ }
     ensures { λ r. ⌜ answerFrom r ≡ rotationAnswer (frame (now (numbers .entry)) (now (turnovers .entry)) (now (randoms .entry))) z old (now (panel .entry)) fraction (now (leavers .entry)) ⌝ }
-    ensures { λ _. ⌜ now (leavers .exit) ≡ leaversOver (frame (now (numbers .entry)) (now (turnovers .entry)) (now (randoms .entry))) z old (now (panel .entry)) fraction (now (leavers .entry)) ⌝ }
+    ensures { λ _. ⌜ now (leavers .exit) ≡ rotationLeavers (frame (now (numbers .entry)) (now (turnovers .entry)) (now (randoms .entry))) z old (now (panel .entry)) fraction (now (leavers .entry)) ⌝ }
 {
-    let g = group::find_group(turnovers, z);
+    let mut marks = [0u8; MOST_FRAME];
+    let g = group::find_group(turnovers, z, &mut marks);
     let mut gaps = [0u64; MOST_FRAME];
-    gaps::fill(turnovers, g, &mut gaps);
-    let members = rotation_members::members(numbers, turnovers, panel, g);
-    let need = required(fraction, members.count);
-    let k = rotation_step::first_step(turnovers, randoms, &gaps, g, members, old, need);
+    draw_gaps::fill(turnovers, &marks, g.n, g.rest, &mut gaps);
+    let mut places = [0usize; MOST_FRAME];
+    let many = rotation_members::members(numbers, &marks, panel, &mut places);
+    let need = required(fraction, many);
+    let s = Setting {
+        start: old,
+        n: g.n,
+        rest: g.rest,
+    };
+    let k = rotation_step::first_step(turnovers, randoms, &gaps, &places[..many], s, z, need);
     if STEPS <= k {
         return Answer::Refused(Refusal::NoStep);
     }
-    let start = rotation_step::start_at(old, k);
-    let left = rotation_step::find_leavers(turnovers, randoms, &gaps, g, members, start);
-    rotation_step::write_numbers(numbers, left, leavers);
+    let at = rotation_step::setting_at(s, k);
+    let count = rotation_leavers::write(
+        numbers,
+        turnovers,
+        randoms,
+        &gaps,
+        &places[..many],
+        at,
+        z,
+        leavers,
+    );
     Answer::Rotated {
         k,
-        start,
-        count: left.count,
+        start: at.start,
+        count,
     }
 }
 
-// Rotation: the smallest step, the new start, and the count of the leavers, whose unit numbers are written to the front of the buffer;
-// or the lowest refusal that applies, and then the buffer is as it was.
+// Rotation: the smallest step, the new start, and the count of the leavers, whose unit numbers are written to the front of the buffer, by falling
+// turnover, equal turnovers by lower number; or the lowest refusal that applies, and then the buffer is as it was.
 pub fn rotate(
     numbers: &[u32],
     turnovers: &[u64],
@@ -78,8 +94,8 @@ pub fn rotate(
 ) -> Answer
     ensures { λ r. ⌜ answerFrom r ≡ rotationAnswer (frame (now (numbers .entry)) (now (turnovers .entry)) (now (randoms .entry))) z old (now (panel .entry)) fraction (now (leavers .entry)) ⌝ }
     ensures { λ _.
-        ⌜ Holds (rotationLeavers (frame (now (numbers .entry)) (now (turnovers .entry)) (now (randoms .entry))) z old (now (panel .entry)) fraction (now (leavers .entry)))
-        (now (leavers .entry)) (now (leavers .exit)) ⌝ }
+        ⌜ now (leavers .exit) ≡ rotationLeavers (frame (now (numbers .entry)) (now (turnovers .entry)) (now (randoms .entry))) z old
+        (now (panel .entry)) fraction (now (leavers .entry)) ⌝ }
 {
     let verdict = rotation_judge::judge(
         numbers,

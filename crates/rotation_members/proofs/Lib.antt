@@ -1,2 +1,2 @@
-pub mod Held
-pub mod Merge
+pub mod Passing
+pub mod Filling

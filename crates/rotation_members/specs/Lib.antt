@@ -1,1 +1,3 @@
-pub mod Places
+pub mod Members
+pub mod Passed
+pub mod Filled

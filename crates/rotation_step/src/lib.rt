@@ -1,96 +1,75 @@
-// One step of a rotation (document 01, "Rotation"): the start that it leads to, who of the members leaves there, the first step at which enough
-// leave, and the leavers' numbers written out. A step looks for the last sampled unit under its start and holds each member against it.
+// One step of a rotation (document 01, "Rotation"): the start that it leads to, how many of the members leave there, and the first step at which
+// enough do. A step looks for the last sampled unit under its start and holds each member against it; who they are is listed once, by crate
+// `rotation_leavers`.
+use draw_key::Setting;
 use draw_panel::told;
-use group::Group;
-use limits::MOST_PANEL;
 use limits::RANDOM_RANGE;
 use limits::STEP_LENGTH;
 use limits::STEPS;
-use rotation_members::Places;
 ghost use mathlib.Core.Path.{_≡_};
 ghost use Prim.Native.Nat.{_<_, _≤_};
-ghost use lib.ListN.{length};
 ghost use Rattle.rules.specs.Limits.{randomRange, steps};
-ghost use Rattle.rules.specs.Refusals.{written};
-ghost use Rattle.rules.specs.Rotation.{startAt};
-ghost use Rattle.group.specs.Group.{rulesGroup};
-ghost use Rattle.draw_terms.specs.Terms.{unnumbered};
-ghost use Rattle.rotation_step.specs.Leaving.{LeaversOf, firstStep, inPlaceOrder};
-ghost use Rattle.rotation_step.specs.Search.{Within, Searched};
+ghost use Rattle.rotation_step.specs.Leaving.{settingAt, leaving, firstStep};
+ghost use Rattle.rotation_step.specs.Search.{Searched};
 
-// "(old + 1,000 × k) mod 1,000,000"
-pub fn start_at(old: u32, k: u32) -> u32
-    requires { ⌜ (old < randomRange) × (k ≤ steps) ⌝ }
-    ensures { λ r. ⌜ r ≡ startAt old k ⌝ }
+// The setting with the start "(old + 1,000 × k) mod 1,000,000".
+pub fn setting_at(s: Setting, k: u32) -> Setting
+    requires { ⌜ (s .start < randomRange) × (k ≤ steps) ⌝ }
+    ensures { λ r. ⌜ r ≡ settingAt s k ⌝ }
 {
-    (old + STEP_LENGTH * k) % RANDOM_RANGE
+    let old = s.start;
+    Setting {
+        start: (old + STEP_LENGTH * k) % RANDOM_RANGE,
+        n: s.n,
+        rest: s.rest,
+    }
 }
 
-// The members that are not sampled under a start: who leaves.
-pub fn find_leavers(
+// How many members are not sampled; z is the number of the take-all units and of those to sample.
+fn count_leavers(
     turnovers: &[u64],
     randoms: &[u32],
     gaps: &[u64],
-    g: Group,
-    members: Places,
-    start: u32,
-) -> Places
-    requires { ⌜ Searched (now turnovers) (now randoms) (now gaps) g members × (start < randomRange) ⌝ }
-    ensures { λ r. ⌜ LeaversOf (unnumbered (now (turnovers .entry)) (now (randoms .entry))) (rulesGroup (now (turnovers .entry)) g) members start r ⌝ }
+    members: &[usize],
+    s: Setting,
+    z: usize,
+) -> usize
+    requires { ⌜ Searched (now turnovers) (now randoms) (now gaps) (now members) s z ⌝ }
+    ensures { λ r. ⌜ r ≡ leaving (now (turnovers .entry)) (now (randoms .entry)) (now (gaps .entry)) (now (members .entry)) s ⌝ }
 {
-    let told = told::tell(turnovers, randoms, gaps, g, start);
-    let units = members.places;
-    let many = members.count;
-    let mut places = [0usize; MOST_PANEL];
+    let told = told::tell(turnovers, randoms, gaps, s, z);
     let mut count: usize = 0;
     let mut j: usize = 0;
-    while j < many {
-        let i = units[j];
-        if !told::is_sampled(turnovers, randoms, gaps, g, start, told, i) {
-            places[count] = i;
+    while j < members.len() {
+        if !told::is_sampled(turnovers, randoms, gaps, s, told, members[j]) {
             count += 1;
         }
         j += 1;
     }
-    Places { places, count }
+    count
 }
 
-// The smallest step at which at least `need` members are not sampled, or 1,000.
+// The smallest step from the setting's start at which at least `need` members are not sampled, or 1,000.
 pub fn first_step(
     turnovers: &[u64],
     randoms: &[u32],
     gaps: &[u64],
-    g: Group,
-    members: Places,
-    old: u32,
+    members: &[usize],
+    s: Setting,
+    z: usize,
     need: usize,
 ) -> u32
-    requires { ⌜ Searched (now turnovers) (now randoms) (now gaps) g members × (old < randomRange) ⌝ }
-    ensures { λ r. ⌜ r ≡ firstStep (unnumbered (now (turnovers .entry)) (now (randoms .entry))) (rulesGroup (now (turnovers .entry)) g) members old need ⌝ }
+    requires { ⌜ Searched (now turnovers) (now randoms) (now gaps) (now members) s z ⌝ }
+    ensures { λ r. ⌜ r ≡ firstStep (now (turnovers .entry)) (now (randoms .entry)) (now (gaps .entry)) (now (members .entry)) s need ⌝ }
 {
     let mut k: u32 = 0;
     while k < STEPS {
-        let start = start_at(old, k);
-        let leavers = find_leavers(turnovers, randoms, gaps, g, members, start);
-        if need <= leavers.count {
+        let at = setting_at(s, k);
+        let leaving = count_leavers(turnovers, randoms, gaps, members, at, z);
+        if need <= leaving {
             return k;
         }
         k += 1;
     }
     STEPS
-}
-
-// Writes the numbers of units in the order of their places: in what order the leavers are given.
-pub fn write_numbers(numbers: &[u32], units: Places, out: &mut [u32])
-    requires { ⌜ Within (length (now numbers)) units × (units .count ≤ length (now out)) ⌝ }
-    ensures { λ _. ⌜ now (out .exit) ≡ written 0 (inPlaceOrder (now (numbers .entry)) units) (now (out .entry)) ⌝ }
-{
-    let places = units.places;
-    let many = units.count;
-    let mut j: usize = 0;
-    while j < many {
-        let i = places[j];
-        out[j] = numbers[i];
-        j += 1;
-    }
 }

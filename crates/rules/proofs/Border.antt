@@ -1,5 +1,5 @@
--- What demand 3 and the leavers' buffer ask and allow, shown at the border by examples: these are relations, which the tests cannot
--- compute as they compute the other definitions.
+-- What demand 3 asks and allows, shown at the border by examples: it is a relation, which the tests cannot compute as they compute the other
+-- definitions.
 use mathlib.Core.Path.{_≡_, refl, ap}
 use Prim.Native.Nat.{ℕ, suc, _+_, _*_}
 use mathlib.Core.List.{List, [], _∷_}
@@ -11,7 +11,6 @@ use Rattle.rules.specs.Lists.{sum, products, scaled}
 use Rattle.rules.specs.Chain.{Chain, Call, after}
 use Rattle.rules.specs.Events.{Event, events}
 use Rattle.rules.specs.Direct.{Direct, exactOpen, exactMoved, directOpen, numerator, denominator, directAfter, allowed, Within, AllWithin}
-use Rattle.rules.specs.Rotation.{Holds, times}
 use Rattle.rules.proofs.Tests.{never}
 
 -- with D = 10,000,000 a figure may be off by 22 for two floors, by 33 for three
@@ -110,20 +109,3 @@ pub every-call : (r : Chain) (calls : List Call) → length (events r calls) ≡
 unfolding events
 every-call r [] = refl
 every-call r (call ∷ calls) = ap suc (every-call (after r call) calls)
-
--- two leavers in the other order, and the place beyond them as it was
-pub exchanged : Holds (13 ∷ 15 ∷ []) (1 ∷ 2 ∷ 3 ∷ []) (15 ∷ 13 ∷ 3 ∷ [])
-unfolding times
-exchanged = record { each = λ x. omega arith; beyond = refl }
-
--- one of them twice is no rearrangement
-pub twice-outside : Holds (13 ∷ 15 ∷ []) (1 ∷ 2 ∷ 3 ∷ []) (13 ∷ 13 ∷ 3 ∷ []) → ⊥
-unfolding times
-twice-outside h = omega (arith, h .each 15)
-
--- a place beyond them that is written
-pub beyond-outside : Holds (13 ∷ 15 ∷ []) (1 ∷ 2 ∷ 3 ∷ []) (13 ∷ 15 ∷ 4 ∷ []) → ⊥
-beyond-outside h =
-    let e : _≡_ {A = List ℕ} (4 ∷ []) (3 ∷ []) = h .beyond in
-    let f : _≡_ {A = ℕ} 4 3 = cc in
-    omega arith

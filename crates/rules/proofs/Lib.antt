@@ -4,3 +4,4 @@ pub mod Lists
 pub mod Chains
 pub mod Reference
 pub mod Border
+pub mod Leavers

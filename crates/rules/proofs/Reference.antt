@@ -11,6 +11,7 @@ use Rattle.rules.specs.Lists.{sum, products, scaled, anyOf, anyPair, ris
 use Rattle.rules.specs.Selection.{sumOf, count, byKey, rank, firsts, listed, leastFrom}
 use Rattle.rules.specs.TakeAll.{Frame, Taken, frame, moreTurnover, larger, largest, restWithout, reachesRest, fits, takeAllSize, restTurnover, takeAllGroup, baseWeight, badTurnovers, badSize, badCount, takeAllRefusal, takeAllAnswer, takeAllMarks}
 use Rattle.rules.specs.Draw.{Drawn, shifted, keyNumerator, keyDenominator, fractionBelow, keyBelow, sampledBy, drawnBy, panelNumbers, panelWeights, badLists, badRandom, frameRefusal, drawRefusal, drawAnswer, drawNumbers, drawWeights}
+use Rattle.rules.specs.Order.{put, ordered}
 use Rattle.rules.specs.Rotation.{Rotated, member, members, required, startAt, leaves, suffices, leastStep, leavers, badOldPanel, oldPanelRefusal, rotationRefusal, rotationAnswer, rotationLeavers}
 use Rattle.rules.specs.Chain.{Chain, Call, held, badIndex, badRelative, badWeight, badUnits, badOpenLists, badBase, badShares, openInputRefusal, weightRefusal, openRefusal, openRecord, link, figureAt, broken, callInputRefusal, figureRefusal, callRefusal, callAnswer}
 use Rattle.rules.specs.Direct.{Direct, exactOpen, exactMoved, directOpen, directAfter, numerator, denominator}
@@ -108,7 +109,7 @@ pub record ReferenceTable : Type 0 where
   k5-weight : drawWeights (frame (7 ∷ []) (5 ∷ []) (0 ∷ [])) 1 0 buffer buffer ≡ 5 ∷ 9 ∷ 9 ∷ 8 ∷ []
   -- K6: old panel 13 and 15, old start 0, f = 500: k = 101, leaver 15, new panel 11, 12, 13
   k6-answer : rotationAnswer (frameA 100000) 3 0 (13 ∷ 15 ∷ []) 500 buffer ≡ rotated 101 101000 1
-  k6-leavers : rotationLeavers (frameA 100000) 3 0 (13 ∷ 15 ∷ []) 500 buffer ≡ 15 ∷ []
+  k6-leavers : rotationLeavers (frameA 100000) 3 0 (13 ∷ 15 ∷ []) 500 buffer ≡ 15 ∷ 9 ∷ 9 ∷ 8 ∷ []
   k6-panel : drawNumbers (frameA 100000) 3 101000 buffer buffer ≡ 11 ∷ 12 ∷ 13 ∷ 8 ∷ []
   -- K7, K8: the C and the Q figure of the listing, whose output is exact
   k7-k8 : output streamA ≡ linesA
@@ -126,7 +127,7 @@ pub record ReferenceTable : Type 0 where
 
 pub reference-table : ReferenceTable
 unfolding _or_ _and_ outside refuse _then_ sum products scaled anyOf anyPair risesFrom rising elem
-    sumOf count byKey rank firsts listed leastFrom
+    sumOf count byKey rank firsts listed leastFrom put ordered
     moreTurnover larger largest restWithout reachesRest fits takeAllSize restTurnover takeAllGroup baseWeight badTurnovers badSize badCount takeAllRefusal takeAllAnswer takeAllMarks
     shifted keyNumerator keyDenominator fractionBelow keyBelow sampledBy drawnBy panelNumbers panelWeights badLists badRandom frameRefusal drawRefusal drawAnswer drawNumbers drawWeights
     member members required startAt leaves suffices leastStep leavers badOldPanel oldPanelRefusal rotationRefusal rotationAnswer rotationLeavers

@@ -8,3 +8,4 @@ pub mod Listed
 pub mod Segment
 pub mod Held
 pub mod Terms
+pub mod Marking

@@ -10,10 +10,10 @@ use native.Mathlib.Numerals.{add-one}
 use lib.ListN.{length, getD, take, List·getD-append}
 use lib.Seq.{getD-at}
 use Rattle.rules.specs.Tests.{_and_}
-use Rattle.rules.specs.Selection.{count, listed, sumOf}
+use Rattle.rules.specs.Selection.{count, listed, sumOf, every}
 use Rattle.rules.proofs.Tests.{by-test}
 use Rattle.rules.proofs.Lists.{take-last, snoc-under}
-use Rattle.selection.proofs.Sums.{has-room, listed-length}
+use Rattle.selection.proofs.Sums.{has-room, listed-length, count-every}
 
 module _ (mark : ℕ → Bool) (f : ℕ → ℕ) (bound : ℕ) where
   -- what is listed is below a bound that f of each unit is below
@@ -44,6 +44,18 @@ module _ (mark : ℕ → Bool) where
       List·getD-append here (cond (mark n) (n ∷ []) []) 0 (count mark i) room ∙ listed-has n i k h)
       (eq-or-lt-of-le (le-of-suc-le-suc l))
 
+-- of every unit, the one at its own place
+pub every-at : (f : ℕ → ℕ) (n i : ℕ) → i < n → getD (listed every f n) i 0 ≡ f i
+unfolding listed
+every-at f zero i l = absurd (not-suc-le-zero l)
+every-at f (suc n) i l =
+    let here = listed every f n in
+    let size : length here ≡ n = listed-length every f n ∙ count-every n in
+    ⊎-elim
+    (λ e. getD-at here (f n) [] 0 i (size ∙ sym e) ∙ ap f (sym e))
+    (λ k. List·getD-append here (f n ∷ []) 0 i (omega (arith, size)) ∙ every-at f n i k)
+    (eq-or-lt-of-le (le-of-suc-le-suc l))
+
 -- THE SECOND LOOK: of the units with the first mark, held as a list of places, those with the second are listed as a look at the whole frame for both
 -- marks would list them
 module _ (first second : ℕ → Bool) (ps : List ℕ) where
@@ -61,8 +73,13 @@ module _ (first second : ℕ → Bool) (ps : List ℕ) where
       rw (both .1) (ap (λ (xs : List ℕ). xs ++ cond (second n) (f n ∷ []) []) (rest (both .0)))))
       (λ e. rw (e, same, append-nil, append-nil) rest)
 
--- marks that agree list the same
-pub listed-same : (p q : ℕ → Bool) (f : ℕ → ℕ) (n : ℕ) → ((i : ℕ) → i < n → p i ≡ q i) → listed p f n ≡ listed q f n
+-- marks and values that agree list the same
+pub listed-both :
+    (p q : ℕ → Bool) (f g : ℕ → ℕ) (n : ℕ) → ((i : ℕ) → i < n → p i ≡ q i) → ((i : ℕ) → i < n → f i ≡ g i) → listed p f n ≡ listed q g n
 unfolding listed
-listed-same p q f zero h = refl
-listed-same p q f (suc n) h = rw (h n (omega arith), listed-same p q f n (λ i l. h i (omega arith)))
+listed-both p q f g zero h k = refl
+listed-both p q f g (suc n) h k =
+    rw (h n (omega arith), k n (omega arith), listed-both p q f g n (λ i l. h i (omega arith)) (λ i l. k i (omega arith)))
+
+pub listed-same : (p q : ℕ → Bool) (f : ℕ → ℕ) (n : ℕ) → ((i : ℕ) → i < n → p i ≡ q i) → listed p f n ≡ listed q f n
+listed-same p q f n h = listed-both p q f f n h (λ i l. refl)

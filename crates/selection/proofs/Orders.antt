@@ -11,7 +11,7 @@ use borrow.Author.Tests.{lt-ltb, le-ltb, ltb-true, ltb-false, not-true}
 use Rattle.rules.specs.Tests.{_and_}
 use Rattle.rules.specs.Selection.{sumOf, count, rank, firsts, byKey, every}
 use Rattle.rules.proofs.Tests.{and-left, and-right, and-true, and-on, or-on, or-off, or-second, or-none, or-false, by-test, not-both, must-hold, cannot-hold}
-use Rattle.selection.proofs.Sums.{sum-le, sum-less}
+use Rattle.selection.proofs.Sums.{sum-le, sum-less, sum-same}
 
 -- A strict total order on the units below n that have the mark.
 pub record Order (among : ℕ → Bool) (before : ℕ → ℕ → Bool) (n : ℕ) : Type 0 where
@@ -94,6 +94,21 @@ module _ (among : ℕ → Bool) (before : ℕ → ℕ → Bool) where
       cannot-hold (among i and ltb (rank among before n i) 0)
       (λ e. omega (arith, ltb-true (rank among before n i) 0 (and-right (among i) (ltb (rank among before n i) 0) e)))
 
+-- the same units in the same order
+pub firsts-same :
+    {p q : ℕ → Bool} {before before′ : ℕ → ℕ → Bool} {n : ℕ} (k : ℕ) → ((i : ℕ) → i < n → p i ≡ q i)
+    → ((j i : ℕ) → j < n → i < n → p j ≡ true → p i ≡ true → before j i ≡ before′ j i)
+    → (i : ℕ) → i < n → firsts p before n k i ≡ firsts q before′ n k i
+unfolding firsts rank count _and_
+firsts-same {p} {q} {before} {before′} {n} k marks orders i l =
+    by-test (p i)
+    (λ a. rw (sym (marks i l), a)
+    (ap (λ (m : ℕ). ltb m k) (sum-same (λ j. p j and before j i) (λ j. q j and before′ j i) (λ j. 1) n (λ j m. same j m a))))
+    (λ a. rw (sym (marks i l), a))
+  where
+    same : (j : ℕ) → j < n → p i ≡ true → (p j and before j i) ≡ (q j and before′ j i)
+    same j m a = rw (sym (marks j m)) (by-test (p j) (λ b. rw b (orders j i m l b a)) (λ b. rw b))
+
 -- What `byKey` asks of a key: a strict weak order.
 pub record KeyOrder (among : ℕ → Bool) (below : ℕ → ℕ → Bool) (n : ℕ) : Type 0 where
   pub asym : (i j : ℕ) → i < n → j < n → among i ≡ true → among j ≡ true → below i j ≡ true → below j i ≡ false
@@ -124,6 +139,11 @@ module _ (below : ℕ → ℕ → Bool) (j i : ℕ) where
   by-not h =
       let none = or-false (below j i) (not (below i j) and ltb j i) h in
       (none .0, λ k. ltb-false j i (sym (and-on (not (below i j)) (ltb j i) (ap not k)) ∙ none .1))
+
+  -- by another key that tells the two apart alike
+  pub by-same : (below′ : ℕ → ℕ → Bool) → below j i ≡ below′ j i → below i j ≡ below′ i j → byKey below j i ≡ byKey below′ j i
+  unfolding byKey
+  by-same below′ h g = rw (h, g)
 
   -- a unit of a higher number comes before only by its key: equal keys are in the lower number's favour
   pub by-higher : i ≤ j → byKey below j i ≡ below j i

@@ -15,8 +15,8 @@ use Rattle.rules.specs.Selection.{sumOf, count, rank, firsts, leastFrom, every}
 use Rattle.rules.specs.TakeAll.{turnover, moreTurnover, larger, largest, restWithout, reachesRest, fits, takeAllSize, restTurnover}
 use Rattle.rules.proofs.Tests.{and-on, by-test, by-order, cannot-hold}
 use Rattle.selection.specs.Ranked.{Ranked}
-use Rattle.selection.proofs.Sums.{sum-le, sum-both, sum-list, sum-none, count-every, count-both}
-use Rattle.selection.proofs.Orders.{Order, KeyOrder, key-order, by-not, rank-less, firsts-zero, threshold}
+use Rattle.selection.proofs.Sums.{sum-le, sum-both, sum-list, sum-none, count-every}
+use Rattle.selection.proofs.Orders.{Order, KeyOrder, key-order, by-not, rank-less, firsts-zero}
 use Rattle.selection.proofs.Places.{ranked-short, firsts-step, count-held, all-ranked}
 use Rattle.selection.proofs.Least.{least-le, least-holds, least-first}
 
@@ -58,13 +58,6 @@ largest-high ts q i h = ltb-false (sizeRank ts i) q (sym (largest-is ts q i) ∙
 pub largest-none : (ts : List ℕ) (i : ℕ) → largest ts 0 i ≡ false
 unfolding largest
 largest-none ts i = firsts-zero every (larger ts) (length ts) i
-
--- a unit is one of the q largest where their last, w, does not come before it
-pub largest-by : (ts : List ℕ) (q w i : ℕ) → w < length ts → sizeRank ts w + 1 ≡ q → i < length ts → largest ts q i ≡ not (larger ts w i)
-unfolding largest
-largest-by ts q w i lw e li =
-    let s : q ≡ suc (sizeRank ts w) = omega arith in
-    rw s (threshold (larger-order ts (length ts)) (sizeRank ts w) w lw refl refl i li ∙ and-on true (not (larger ts w i)) refl)
 
 -- ---- where the array of the z largest is known, X and the test at q are those of its places
 module _ (ts : List ℕ) {top : List ℕ} {z : ℕ} (r : Ranked every (larger ts) (length ts) top z) where
@@ -213,7 +206,3 @@ module _ (ts : List ℕ) (z : ℕ) (within : z ≤ length ts) where
   outside-below l i li h =
       let s = others-le ts ranked (takeAllSize ts z) i l li (largest-high ts (takeAllSize ts z) i h) in
       rw (rest-hit ts z (takeAllSize ts z) refl l) (lt-of-le-of-lt (mul-le-mul-left (z - takeAllSize ts z) s) (fails l))
-
-  -- as many units as are sampled stand outside the group
-  pub outside-count : count (λ i. not (largest ts (takeAllSize ts z) i)) (length ts) + takeAllSize ts z ≡ length ts
-  outside-count = omega (arith, group-size (takeAllSize ts z) (size-le ts z), count-both (largest ts (takeAllSize ts z)) (length ts))

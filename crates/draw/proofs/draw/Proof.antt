@@ -1,10 +1,11 @@
 -- A refused verdict answers its number and leaves both buffers; an accepted one is what `draw_panel` asks for.
-use mathlib.Core.Path.{refl, sym, ap, _∙_}
+use mathlib.Core.Path.{refl, sym, ap, ap₂, _∙_}
+use Prim.Native.Nat.{ℕ}
+use Rattle.rules.specs.Refusals.{Judged}
 use borrow.Author.Needs.{needs}
 use Rattle.rules.specs.Draw.{drawAnswer, drawNumbers, drawWeights}
 use Rattle.refusals.specs.Number.{verdictOf}
 use Rattle.refusals.proofs.Numbers.{number-is-suc}
-use Rattle.group.proofs.Accepted.{group-is}
 use Rattle.draw.proofs.draw.Statement.{statement}
 use Rattle.draw.proofs.draw.Tie as tie
 
@@ -23,7 +24,7 @@ returns-2 c =
     let d = c .before .before .before .before in
     let none = sym (d .before .before .before .before .before .judge .ensures) ∙ ap verdictOf (d .before .before .before .enum-told .given .1) in
     let g = d .draw-panel .ensures in
-    rw (none, ← group-is _ _ _ (g .0)) (refl, g .1)
+    rw none (ap₂ (λ (n x : ℕ). Judged.given (record { sampleSize = n; rest = x })) (g .0 .size-is) (g .0 .rest-is), g .1)
 
 pub draw-spec : {M : Type 1} → statement M
 draw-spec =

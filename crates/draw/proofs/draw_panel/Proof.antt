@@ -6,11 +6,17 @@ use Rattle.draw.proofs.draw_panel.Tie as tie
 
 draw-with-requires-2 : tie.Need-draw-with-requires-2
 draw-with-requires-2 c κs =
-    let s = c .before .before .before .before .before .before .before .before .before in
-    (s .pre, draw-accepted _ _ _ _ _ (s .pre) .frameOk .units .few)
+    let s = c .before .before .before .before .before .before .before .before .before .before in
+    let few = draw-accepted _ _ _ _ _ (s .pre) .frameOk .units .few in
+    (s .pre, (few, few))
 
 pub draw-panel-spec : {M : Type 1} → statement M
 draw-panel-spec =
     tie.close
-    (tie.spec (λ c. search needs) (λ c κs. search needs) (λ c. search needs) (λ c. search needs) (λ c. search needs) (λ c. search needs)
+    (tie.spec (λ c. search needs) (λ c. search needs)
+    (λ c κs.
+    let s = c .before .before .before .before .before .before .before .before .before .before in
+    let few = c .before .before .before .before .if1 .taken in
+    (s .pre, (few, few)))
+    (λ c. search needs) (λ c. search needs) (λ c. search needs) (λ c. search needs) (λ c. search needs)
     draw-with-requires-2 (λ c. search needs) (λ c. search needs) (λ c. search needs))

@@ -1,16 +1,18 @@
 -- The facts of an accepted frame feed each step; what is written, from the short list or in order, is then the definition's.
-use mathlib.Core.Path.{_≡_}
-use Prim.Native.Nat.{_+_, _≤_}
+use mathlib.Core.Path.{ap, _∙_}
+use mathlib.Core.List.{List}
+use Prim.Native.Nat.{ℕ, _≤_}
 use native.Mathlib.Omega.{arith}
 use lib.ListN.{length}
 use borrow.Author.Needs.{needs}
-use Rattle.rules.specs.TakeAll.{frame}
-use Rattle.group.proofs.Accepted.{sized, panel-size, own-size}
-use Rattle.draw_terms.specs.Terms.{Ready}
-use Rattle.draw_terms.proofs.Accepted.{ready}
-use Rattle.draw_terms.proofs.ByGaps.{units-of}
-use Rattle.draw_panel.proofs.Short.{reach-at, found-draws}
+use Rattle.rules.specs.Refusals.{written}
+use Rattle.rules.specs.TakeAll.{frame, takeAllGroup}
+use Rattle.group.specs.declared.Group.{Group}
+use Rattle.group.specs.Group.{IsGroup}
+use Rattle.group.proofs.Accepted.{sized, sound}
+use Rattle.draw.specs.Answer.{IsSize}
 use Rattle.draw.proofs.Accepted.{DrawAccepted, draw-accepted}
+use Rattle.draw.proofs.Panel as panels
 use Rattle.draw.proofs.draw_with.Statement.{statement}
 use Rattle.draw.proofs.draw_with.Tie as tie
 
@@ -19,64 +21,95 @@ ok : (s : tie.Start) →
     DrawAccepted (frame (a .numbers .now) (a .turnovers .now) (a .randoms .now)) (a .z) (a .start) (a .panel .now) (a .weights .now)
 ok s = draw-accepted _ _ _ _ _ (s .pre .0)
 
--- what the inner functions ask for, once the group is found
+is-size : (ts : List ℕ) (z : ℕ) (marks : List ℕ) (g : Group) → IsGroup ts z marks g → IsSize (takeAllGroup ts z) g
+is-size ts z marks g k = record { size-is = k .agrees .size-is; rest-is = k .agrees .rest-is }
+
+-- once the group is found
 module _ (c : tie.After-find-group) where
   abbrev entry : tie.Start
-  entry = c .before .before .before .before .before .before .before
+  entry = c .before .before .before .before .before .before .before .before .before
 
-  group-ready : Ready (entry .args .turnovers .now) (entry .args .randoms .now) (c .find-group .result) (entry .args .start)
-  group-ready = ready _ _ _ _ _ (ok entry .frameOk) (c .find-group .ensures) (ok entry .frameOk .startLow)
+  abbrev marks : List ℕ
+  marks = c .find-group .last .1 .1 .0
 
-  size : c .find-group .result .q + c .find-group .result .n ≡ entry .args .z
-  size = panel-size _ _ _ (c .find-group .ensures)
+  marks-room : length (entry .args .turnovers .now) ≤ length marks
+  marks-room = omega (arith, c .find-group .kept .1 .1 .0, entry .pre .1 .1)
 
-  room :
-      let n = c .find-group .result .q + c .find-group .result .n in
-      let a = entry .args in
-      (length (a .numbers .now) ≡ length (a .turnovers .now)) × (n ≤ length (a .panel .now)) × (n ≤ length (a .weights .now))
-  room =
-      let k = ok entry in
-      (k .frameOk .numbersLength, omega (arith, size, k .numbersRoom), omega (arith, size, k .weightsRoom))
+-- and the gaps are written
+module _ (c : tie.After-fill) where
+  abbrev group : tie.After-find-group
+  group = c .before .before .before .before .before
+
+  drawing :
+      let a = entry group .args in
+      panels.Drawing (frame (a .numbers .now) (a .turnovers .now) (a .randoms .now)) (a .z) (a .start) (marks group)
+      (c .fill .last .1 .1 .1 .1 .0) (group .find-group .result)
+  drawing =
+      let k = ok (entry group) in
+      record { none = k .none; ok = k .frameOk; group-is = group .find-group .ensures .0; filled = c .fill .ensures }
 
 fill-requires : tie.Need-fill-requires
 fill-requires c κs =
-    let g = c .before in
-    let own = own-size _ _ _ (g .find-group .ensures) (sized _ _ (ok (entry g) .frameOk .units)) in
-    (own .0, own .1, entry g .pre .1)
-
-find-requires : tie.Need-find-requires
-find-requires c κs =
-    let f = c .before .before .before .before in
-    let r = group-ready (f .before .before) in
-    (units-of _ _ _ _ _ r (f .fill .ensures), reach-at _ _ _ _ _ _ r (f .fill .ensures) (c .before .reach-of .ensures))
+    let g = c .before .before .before .before in
+    let k = ok (entry g) .frameOk .units in
+    let size = g .find-group .ensures .0 .agrees .size-is in
+    let a = entry g .args in
+    let parts = sound (a .turnovers .now) (a .z) (k .sizeWithin) .parts in
+    ((k .total, omega (arith, size, parts, k .sizeFew)), (marks-room g, entry g .pre .1 .0))
 
 write-found-requires : tie.Need-write-found-requires
 write-found-requires c κs =
-    let l = c .before .before .before in
-    let f = l .before .before .before .before .before in
-    let g = f .before .before in
-    ((group-ready g, found-draws (group-ready g) (f .fill .ensures) (size g) (l .find .ensures (c .before .before .if1 .taken))), room g)
+    let l = c .before .before .before .before in
+    let f = l .before .before .before .before in
+    let d = drawing f in
+    let k = ok (entry (group f)) in
+    let w = l .find .ensures (c .before .before .before .if1 .taken) in
+    let size = panels.found-size d _ w in (
+      (panels.weighable d (marks-room (group f)), k .frameOk .numbersLength, panels.found-here d _ w),
+      (omega (arith, size, k .numbersRoom), omega (arith, size, k .weightsRoom)),
+    )
 
 write-ordered-requires : tie.Need-write-ordered-requires
 write-ordered-requires c κs =
     let f = c .before .before .before .before .before .before .before .before .before in
-    let g = f .before .before in
-    let own = own-size _ _ _ (g .find-group .ensures) (sized _ _ (ok (entry g) .frameOk .units)) in
-    ((group-ready g, f .fill .ensures, own .0), room g)
+    let d = drawing f in
+    let k = ok (entry (group f)) in
+    let size = panels.drawn-size d in (
+      (panels.units-here d, panels.weighable d (marks-room (group f)), panels.markable d),
+      (k .frameOk .numbersLength, omega (arith, size, k .numbersRoom), omega (arith, size, k .weightsRoom)),
+    )
 
 returns : tie.Need-returns
 returns c =
     let w = c .before .before .before .before in
-    (w .before .before .before .before .before .before .before .before .before .before .before .find-group .ensures, w .write-found .ensures)
+    let l = w .before .before .before .before .before in
+    let f = l .before .before .before .before in
+    let d = drawing f in
+    let a = entry (group f) .args in
+    let found = l .find .ensures (w .before .before .before .before .if1 .taken) in (
+      is-size _ _ _ _ (d .group-is),
+      (
+        w .write-found .ensures .0 ∙ ap (λ (xs : List ℕ). written 0 xs (a .panel .now)) (panels.found-numbers d _ found),
+        w .write-found .ensures .1 ∙ ap (λ (xs : List ℕ). written 0 xs (a .weights .now)) (panels.found-weights d _ found),
+      ),
+    )
 
 returns-2 : tie.Need-returns-2
 returns-2 c =
-    let w = c .before .before .before .before in
-    (w .before .before .before .before .before .before .before .before .before .before .before .before .find-group .ensures, w .write-ordered .ensures)
+    let w = c .before .before .before .before .before .before in
+    let f = w .before .before .before .before .before .before .before .before .before .before in
+    let d = drawing f in
+    let a = entry (group f) .args in (
+      is-size _ _ _ _ (d .group-is),
+      (
+        w .write-ordered .ensures .0 ∙ ap (λ (xs : List ℕ). written 0 xs (a .panel .now)) (panels.drawn-numbers d),
+        w .write-ordered .ensures .1 ∙ ap (λ (xs : List ℕ). written 0 xs (a .weights .now)) (panels.drawn-weights d),
+      ),
+    )
 
 pub draw-with-spec : {M : Type 1} → statement M
 draw-with-spec =
     tie.close
-    (tie.spec (λ c κs. sized _ _ (ok (c .before .before .before .before .before .before) .frameOk .units)) fill-requires
-    (λ c κs. group-ready (c .before .before .before .before) .size-low) find-requires write-found-requires (λ c. search needs) (λ c. search needs)
-    (λ c. search needs) returns write-ordered-requires (λ c. search needs) (λ c. search needs) (λ c. search needs) returns-2)
+    (tie.spec (λ c κs. let s = c .before .before .before .before .before .before .before .before in (sized _ _ (ok s .frameOk .units), s .pre .1 .1)) fill-requires
+    (λ c κs. panels.units-here (drawing (c .before .before .before))) write-found-requires (λ c. search needs) (λ c. search needs) (λ c. search needs) (λ c. search needs)
+    returns write-ordered-requires (λ c. search needs) (λ c. search needs) (λ c. search needs) (λ c. search needs) returns-2)

@@ -3,7 +3,7 @@ use native.Mathlib.Omega.{arith}
 use mathlib.Core.Path.{sym, _∙_}
 use borrow.Author.Tests.{not-true}
 use borrow.Author.Needs.{needs}
-use Rattle.draw_bound.proofs.Terms.{key-less}
+use Rattle.draw_key.proofs.Keys.{key-less}
 use Rattle.draw_bound.proofs.is_apart.Statement.{statement}
 use Rattle.draw_bound.proofs.is_apart.Tie as tie
 

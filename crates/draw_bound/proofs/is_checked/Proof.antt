@@ -12,24 +12,25 @@ use borrow.Author.Needs.{needs}
 use Rattle.rules.specs.Selection.{count}
 use Rattle.rules.proofs.Tests.{not-both}
 use Rattle.selection.proofs.Sums.{count-zero, count-yes, count-not}
+use Rattle.draw_key.specs.declared.Setting.{Setting}
 use Rattle.draw_bound.specs.declared.Bound.{Bound}
 use Rattle.draw_bound.specs.Bound.{passes, Apart}
 use Rattle.draw_bound.proofs.is_checked.Statement.{statement}
 use Rattle.draw_bound.proofs.is_checked.Tie as tie
 
 -- the unit at place k, if of the bound's own part, is on its side
-abbrev Side : List ℕ → List ℕ → List ℕ → ℕ → List ℕ → List ℕ → Bound → ℕ → Type 0
-Side ts rs gs start units parts b k = getD parts k 0 ≡ b .part → Apart ts rs gs start b (getD units k 0)
+abbrev Side : List ℕ → List ℕ → List ℕ → Setting → List ℕ → List ℕ → Bound → ℕ → Type 0
+Side ts rs gs s units parts b k = getD parts k 0 ≡ b .part → Apart ts rs gs s b (getD units k 0)
 
 abbrev Inv-loop : tie.InvT-loop
-Inv-loop turnovers randoms gaps start units parts b z many₀ j₀ many j =
+Inv-loop turnovers randoms gaps s units parts b z many₀ j₀ many j =
     (j ≤ length units)
     × (many ≤ j)
     × (many ≡ count (λ k. passes b (getD parts k 0) (getD units k 0)) j)
-    × ((k : ℕ) → k < j → Side turnovers randoms gaps start units parts b k)
+    × ((k : ℕ) → k < j → Side turnovers randoms gaps s units parts b k)
 
 abbrev μ-loop : tie.MeasureT-loop
-μ-loop turnovers randoms gaps start units parts b z many₀ j₀ many j = length units - j
+μ-loop turnovers randoms gaps s units parts b z many₀ j₀ many j = length units - j
 
 -- the entry, from a turn
 abbrev start : tie.In-loop Inv-loop μ-loop → tie.Start Inv-loop μ-loop

@@ -22,7 +22,7 @@ module _ (s : tie.Start) where
   t = turnover (s .args .turnovers .now) i
 
   abbrev r : ℕ
-  r = shifted (s .args .start) (getD (s .args .randoms .now) i 0)
+  r = shifted (s .args .s .start) (getD (s .args .randoms .now) i 0)
 
   -- r is below its range
   low : r < randomRange
@@ -31,7 +31,7 @@ module _ (s : tie.Start) where
   -- the key from its products
   key :
       (f : Fraction) (n : ℕ) → n ≡ r → (f .num ≡ n * getD (s .args .gaps .now) i 0) × (f .den ≡ keyDenominator t n)
-      → UnitKey (s .args .turnovers .now) (s .args .randoms .now) (s .args .gaps .now) (s .args .start) i f
+      → UnitKey (s .args .turnovers .now) (s .args .randoms .now) (s .args .gaps .now) (s .args .s) i f
   unfolding numOf denOf
   key f n e k = record {
     num-is = k .0 ∙ ap (λ (m : ℕ). m * getD (s .args .gaps .now) i 0) e;

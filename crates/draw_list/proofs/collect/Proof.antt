@@ -12,17 +12,17 @@ use Rattle.draw_list.proofs.collect.Statement.{statement}
 use Rattle.draw_list.proofs.collect.Tie as tie
 
 abbrev Inv-loop : tie.InvT-loop
-Inv-loop turnovers randoms gaps start reach units₀ count₀ i₀ units count i =
-    Listed turnovers randoms gaps start reach (record { units = units; count = count; seen = i })
+Inv-loop turnovers randoms gaps s reach units₀ count₀ i₀ units count i =
+    Listed turnovers randoms gaps s (record { units = units; count = count; seen = i })
 
 abbrev μ-loop : tie.MeasureT-loop
-μ-loop turnovers randoms gaps start reach units₀ count₀ i₀ units count i = length turnovers - i
+μ-loop turnovers randoms gaps s reach units₀ count₀ i₀ units count i = length turnovers - i
 
 loop-again : tie.Need-loop-again Inv-loop μ-loop
 loop-again c =
     let turn = c .before .before .before in
     let at = turn .before .loop in
-    let test = near-is (c .before .before .unit-key .ensures) (turn .before .before .before .before .before .args .reach) ∙ sym (c .before .is-near .ensures) in
+    let test = near-is (c .before .before .unit-key .ensures) (turn .before .before .reach-of .ensures) ∙ sym (c .before .is-near .ensures) in
     ⊎-elim
     (λ w.
     let room : at .count < length (at .units) = omega (arith, w .1 .left, at .inv .room) in
@@ -43,8 +43,11 @@ loop-again c =
 pub collect-spec : {M : Type 1} → statement M
 collect-spec =
     tie.close
-    (tie.spec Inv-loop μ-loop (λ c. record { room = refl; few = omega arith; within-frame = omega arith; holds = held-none })
-    (λ c κs. (c .before .before .before .before .before .pre .0, c .loop-test .taken))
-    (λ c κs. reach-low (c .unit-key .ensures) (c .before .before .before .before .before .before .pre .1) (c .before .loop-test .taken))
+    (tie.spec Inv-loop μ-loop (λ c κs. c .before .before .before .pre .size-low)
+    (λ c. record { room = refl; few = omega arith; within-frame = omega arith; holds = held-none })
+    (λ c κs. (c .before .before .before .before .before .before .pre, c .loop-test .taken))
+    (λ c κs.
+    let turn = c .before in
+    reach-low (c .unit-key .ensures) (turn .before .before .reach-of .ensures) (turn .before .before .before .before .before .before .pre) (turn .loop-test .taken))
     (λ c. c .before .before .before .before .before .loop .inv) (λ c. search needs) (λ c. search needs) (λ c. search needs)
     (λ c. search needs) (λ c. search needs) loop-again (λ c. c .before .loop .inv))

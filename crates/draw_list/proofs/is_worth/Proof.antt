@@ -8,15 +8,19 @@ use Rattle.draw_list.proofs.is_worth.Statement.{statement}
 use Rattle.draw_list.proofs.is_worth.Tie as tie
 
 abbrev Inv-loop : tie.InvT-loop
-Inv-loop turnovers randoms gaps start reach i₀ i = 0 ≤ i
+Inv-loop turnovers randoms gaps s reach i₀ i = 0 ≤ i
 
 abbrev μ-loop : tie.MeasureT-loop
-μ-loop turnovers randoms gaps start reach i₀ i = length turnovers - i
+μ-loop turnovers randoms gaps s reach i₀ i = length turnovers - i
 
 pub is-worth-spec : {M : Type 1} → statement M
 is-worth-spec =
     tie.close
-    (tie.spec Inv-loop μ-loop (λ c. omega arith) (λ c κs. (c .before .before .before .before .before .pre .0, c .loop-test .taken))
-    (λ c κs. reach-low (c .unit-key .ensures) (c .before .before .before .before .before .before .pre .1) (c .before .loop-test .taken)) (λ c. tt)
-    (λ c. let turn = c .before .before .before in omega (arith, turn .loop-test .taken, turn .before .before .before .before .before .good))
+    (tie.spec Inv-loop μ-loop (λ c κs. c .before .before .before .pre .size-low) (λ c. omega arith)
+    (λ c κs. (c .before .before .before .before .before .before .pre, c .loop-test .taken))
+    (λ c κs.
+    let turn = c .before in
+    reach-low (c .unit-key .ensures) (turn .before .before .reach-of .ensures) (turn .before .before .before .before .before .before .pre) (turn .loop-test .taken))
+    (λ c. tt)
+    (λ c. let turn = c .before .before .before in omega (arith, turn .loop-test .taken, turn .before .before .before .before .before .before .good))
     (λ c. search needs) (λ c. omega arith) (λ c. tt))

@@ -11,11 +11,11 @@ use Rattle.draw_list.proofs.most_numerator.Statement.{statement}
 use Rattle.draw_list.proofs.most_numerator.Tie as tie
 
 abbrev Inv-loop : tie.InvT-loop
-Inv-loop turnovers randoms gaps start units most₀ j₀ most j =
-    (j ≤ length units) × (0 < most) × ((k : ℕ) → k < j → numOf randoms gaps start (getD units k 0) ≤ most)
+Inv-loop turnovers randoms gaps s units most₀ j₀ most j =
+    (j ≤ length units) × (0 < most) × ((k : ℕ) → k < j → numOf randoms gaps s (getD units k 0) ≤ most)
 
 abbrev μ-loop : tie.MeasureT-loop
-μ-loop turnovers randoms gaps start units most₀ j₀ most j = length units - j
+μ-loop turnovers randoms gaps s units most₀ j₀ most j = length units - j
 
 -- one more
 more : (f : ℕ → ℕ) (most next j : ℕ) → most ≤ next → f j ≤ next → ((k : ℕ) → k < j → f k ≤ most) → (k : ℕ) → k < j + 1 → f k ≤ next
@@ -26,7 +26,7 @@ loop-again c =
     let at = c .before .before .before .before .before .loop in
     let a = c .before .before .before .before .before .before .before .before .before .before .args in
     let key = c .before .before .unit-key .ensures .num-is in
-    let f : ℕ → ℕ = λ k. numOf (a .randoms .now) (a .gaps .now) (a .start) (getD (a .units .now) k 0) in
+    let f : ℕ → ℕ = λ k. numOf (a .randoms .now) (a .gaps .now) (a .s) (getD (a .units .now) k 0) in
     ⊎-elim
     (λ w. (omega arith, omega (arith, w .0 .taken, w .1), more f (at .most) _ (at .j) (omega (arith, w .0 .taken, w .1)) (omega (arith, key, w .1)) (at .inv .2)))
     (λ w. (omega arith, omega (arith, w .1, at .inv .1), more f (at .most) _ (at .j) (omega (arith, w .1)) (omega (arith, key, w .0 .left, w .1)) (at .inv .2)))

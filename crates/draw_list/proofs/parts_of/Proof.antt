@@ -13,13 +13,13 @@ use Rattle.draw_list.proofs.parts_of.Statement.{statement}
 use Rattle.draw_list.proofs.parts_of.Tie as tie
 
 abbrev Inv-loop : tie.InvT-loop
-Inv-loop turnovers randoms gaps start scale units parts₀ j₀ parts j =
+Inv-loop turnovers randoms gaps s scale units parts₀ j₀ parts j =
     (j ≤ length units)
     × (length parts ≡ listRoom)
-    × ((k : ℕ) → k < j → getD parts k 0 ≡ partOf turnovers randoms gaps start scale (getD units k 0))
+    × ((k : ℕ) → k < j → getD parts k 0 ≡ partOf turnovers randoms gaps s scale (getD units k 0))
 
 abbrev μ-loop : tie.MeasureT-loop
-μ-loop turnovers randoms gaps start scale units parts₀ j₀ parts j = length units - j
+μ-loop turnovers randoms gaps s scale units parts₀ j₀ parts j = length units - j
 
 -- a turn's place, and the entry
 module _ (c : tie.In-loop Inv-loop μ-loop) where

@@ -1,31 +1,27 @@
 -- After j listed units, those of them within the bound are written: k of them.
 use native.Mathlib.Omega.{arith}
-use mathlib.Core.Path.{_≡_, refl, sym, ap, _∙_}
+use mathlib.Core.Path.{_≡_, refl, sym, _∙_}
 use mathlib.Core.Logic.{⊎-elim}
 use mathlib.Core.Bool.{true}
-use mathlib.Core.List.{List}
-use Prim.Native.Nat.{ℕ, _-_, _≤_, _<_}
+use Prim.Native.Nat.{_-_, _≤_, _<_}
 use lib.ListN.{length, getD}
 use borrow.Author.Needs.{needs}
-use Rattle.rules.specs.Refusals.{written}
-use Rattle.rules.specs.TakeAll.{baseWeight}
 use Rattle.selection.proofs.Sums.{has-room}
-use Rattle.group.specs.Group.{rulesGroup}
 use Rattle.draw_bound.specs.Bound.{passes}
 use Rattle.draw_list.specs.Found.{passing}
-use Rattle.draw_panel.proofs.Panel.{numbers-are, weights-are}
+use Rattle.draw_panel.specs.Panel.{weightBy}
 use Rattle.draw_panel.proofs.Writing.{Writing, writing-none, writing-skip, writing-not, writing-more, writing-same}
 use Rattle.draw_panel.proofs.write_found.Statement.{statement}
 use Rattle.draw_panel.proofs.write_found.Tie as tie
 
 abbrev Inv-loop : tie.InvT-loop
-Inv-loop numbers turnovers randoms g start panel₀ weights₀ units parts bound many k₀ j₀ panel weights k j =
+Inv-loop numbers turnovers marks s panel₀ weights₀ units parts bound many k₀ j₀ panel weights k j =
     (j ≤ many)
     × Writing (λ l. passes bound (getD parts l 0) (getD units l 0)) (λ l. getD numbers (getD units l 0) 0)
-    (λ l. baseWeight turnovers (rulesGroup turnovers g) (getD units l 0)) panel₀ weights₀ panel weights j k
+    (λ l. weightBy turnovers marks s (getD units l 0)) panel₀ weights₀ panel weights j k
 
 abbrev μ-loop : tie.MeasureT-loop
-μ-loop numbers turnovers randoms g start panel₀ weights₀ units parts bound many k₀ j₀ panel weights k j = many - j
+μ-loop numbers turnovers marks s panel₀ weights₀ units parts bound many k₀ j₀ panel weights k j = many - j
 
 -- a turn, and the entry
 module _ (c : tie.In-loop Inv-loop μ-loop) where
@@ -33,7 +29,7 @@ module _ (c : tie.In-loop Inv-loop μ-loop) where
   start = c .before .before .before .before .before .before .before .before .before .before
 
   unit-low : getD (start .args .found .units) (c .before .loop .j) 0 < length (start .args .turnovers .now)
-  unit-low = start .pre .0 .1 .list .low (c .before .loop .j) (c .loop-test .taken)
+  unit-low = start .pre .0 .2 .low (c .before .loop .j) (c .loop-test .taken)
 
   -- one that passes has its place in the buffers
   places :
@@ -42,8 +38,7 @@ module _ (c : tie.In-loop Inv-loop μ-loop) where
   places h =
       let room = has-room (passing (start .args .found)) (start .args .found .count) (c .before .loop .j) (c .loop-test .taken) h in
       let many = c .before .loop .inv .1 .many in
-      let exactly = start .pre .0 .1 .list .exactly in
-      (omega (arith, start .pre .1 .1), omega (arith, start .pre .1 .2))
+      (omega (arith, start .pre .1 .0), omega (arith, start .pre .1 .1))
 
 -- the turn of a unit that passes, with its places
 module _ (c : tie.Then1 Inv-loop μ-loop) where
@@ -73,27 +68,24 @@ returns c =
     let a = s .args in
     let at = c .before .loop in
     let done = writing-skip (at .inv .1) (a .found .count) (at .inv .0) (λ m x y. absurd (omega (arith, c .loop-test .left))) in
-    let are = s .pre .0 .1 .are in (
-      done .panel-is ∙ ap (λ (xs : List ℕ). written 0 xs (a .panel .now)) (are _ ∙ numbers-are _ _ _ (a .g) _),
-      done .weights-is ∙ ap (λ (xs : List ℕ). written 0 xs (a .weights .now)) (are _ ∙ weights-are (a .numbers .now) _ _ (a .g) _),
-    )
+    (done .panel-is, done .weights-is)
 
 pub write-found-spec : {M : Type 1} → statement M
 write-found-spec =
     tie.close
     (tie.spec Inv-loop μ-loop (λ c. (omega arith, writing-none))
-    (λ c. omega (arith, c .loop-test .taken, start c .pre .0 .1 .list .few))
-    (λ c. let l = start c .pre .0 .1 .list in omega (arith, c .loop-test .taken, l .few, l .units-room))
-    (λ c. omega (arith, c .loop-test .taken, start c .pre .0 .1 .list .few))
-    (λ c. let l = start c .pre .0 .1 .list in omega (arith, c .loop-test .taken, l .few, l .parts-room))
+    (λ c. omega (arith, c .loop-test .taken, start c .pre .0 .2 .few))
+    (λ c. let l = start c .pre .0 .2 in omega (arith, c .loop-test .taken, l .few, l .units-room))
+    (λ c. omega (arith, c .loop-test .taken, start c .pre .0 .2 .few))
+    (λ c. let l = start c .pre .0 .2 in omega (arith, c .loop-test .taken, l .few, l .parts-room))
     (λ c κs. search needs)
-    (λ c. let t = turn c in omega (arith, unit-low t, start t .pre .1 .0, start t .good))
-    (λ c. let t = turn (c .before) in omega (arith, unit-low t, start t .pre .1 .0))
+    (λ c. let t = turn c in omega (arith, unit-low t, start t .pre .0 .1, start t .good))
+    (λ c. let t = turn (c .before) in omega (arith, unit-low t, start t .pre .0 .1))
     (λ c. omega (arith, room (c .before), start (turn (c .before)) .good))
     (λ c. omega (arith, room (c .before), turn (c .before) .before .loop .inv .1 .panel-room))
     (λ c κs. let t = turn (c .before) in (start t .pre .0 .0, unit-low t))
     (λ c. omega (arith, room (c .before .before), start (turn (c .before .before)) .good))
     (λ c. omega (arith, room (c .before .before), turn (c .before .before) .before .loop .inv .1 .weights-room))
     (λ c. omega (arith, room (c .before .before), start (turn (c .before .before)) .good))
-    (λ c. let t = c .before .before in omega (arith, t .loop-test .taken, start t .pre .0 .1 .list .few)) (λ c. search needs) loop-again
+    (λ c. let t = c .before .before in omega (arith, t .loop-test .taken, start t .pre .0 .2 .few)) (λ c. search needs) loop-again
     (λ c. c .before .loop .inv .1 .panel-room) (λ c. c .before .loop .inv .1 .weights-room) returns)

@@ -1,29 +1,68 @@
--- Where z × the largest turnover is below the total, q = 0 fits (`none-takes-all`); otherwise the z largest are put in order.
-use mathlib.Core.Path.{sym}
-use Prim.Native.Nat.{_≤_}
-use native.Mathlib.Nat.{mul-le-mul}
-use native.Mathlib.Omega.{arith}
+-- The marks of whoever has the least turnover are those of the group.
+use mathlib.Core.Path.{_≡_, refl, sym, ap, _∙_}
+use mathlib.Core.Bool.{Bool, false, cond}
+use mathlib.Core.List.{List}
+use Prim.Native.Nat.{ℕ, _-_, _<_}
+use lib.ListN.{length}
 use borrow.Author.Needs.{needs}
-use Rattle.rules.specs.Limits.{mostPanel, mostTurnover}
-use Rattle.selection.proofs.Sums.{place-le}
-use Rattle.group.proofs.Groups.{none-takes-all}
+use Rattle.rules.specs.Refusals.{written}
+use Rattle.rules.specs.Selection.{every}
+use Rattle.rules.specs.TakeAll.{largest, takeAllGroup}
+use Rattle.selection.proofs.TakeAll.{largest-none}
+use Rattle.selection.proofs.Listed.{listed-both}
+use Rattle.group_least.specs.declared.Size.{Size}
+use Rattle.group_least.specs.Size.{hasLeast, IsSize}
+use Rattle.group.specs.Group.{noUnit, marksOf, IsGroup}
+use Rattle.group.proofs.Accepted.{mark-at, marks-tell}
 use Rattle.group.proofs.find_group.Statement.{statement}
 use Rattle.group.proofs.find_group.Tie as tie
+
+module _ (ts : List ℕ) (z : ℕ) (s : Size) (k : IsSize ts z s) where
+  group-is : (i : ℕ) → i < length ts → hasLeast ts (s .least) i ≡ takeAllGroup ts z .takesAll i
+  unfolding takeAllGroup
+  group-is i l = k .group i l ∙ ap (λ (q : ℕ). largest ts q i) (k .size)
+
+  -- a mark for each unit; none where the group is empty
+  marks-are : marksOf (hasLeast ts (s .least)) (length ts) ≡ marksOf (takeAllGroup ts z .takesAll) (length ts)
+  marks-are = listed-both every every _ _ (length ts) (λ i l. refl) (λ i l. ap (λ (b : Bool). cond b 1 0) (group-is i l))
+
+  none-is : s .q ≡ 0 → (i : ℕ) → i < length ts → false ≡ takeAllGroup ts z .takesAll i
+  unfolding takeAllGroup
+  none-is e i l = sym (ap (λ (q : ℕ). largest ts q i) (sym (k .size) ∙ e) ∙ largest-none ts i)
+
+  none-are : s .q ≡ 0 → marksOf noUnit (length ts) ≡ marksOf (takeAllGroup ts z .takesAll) (length ts)
+  none-are e = listed-both every every _ _ (length ts) (λ i l. refl) (λ i l. ap (λ (b : Bool). cond b 1 0) (none-is e i l))
+
+  found :
+      (old marks : List ℕ) → marks ≡ written 0 (marksOf (takeAllGroup ts z .takesAll) (length ts)) old
+      → IsGroup ts z marks (record { q = s .q; n = s .n; rest = s .rest })
+  unfolding takeAllGroup
+  found old marks e = record {
+    size = k .size;
+    mark-is = mark-at (takeAllGroup ts z .takesAll) (length ts) old marks e;
+    agrees = record {
+      takes = marks-tell (takeAllGroup ts z .takesAll) (length ts) old marks e;
+      size-is = k .sample ∙ ap (λ (q : ℕ). z - q) (k .size);
+      rest-is = k .rest-is;
+    };
+  }
+
+returns : tie.Need-returns
+returns c =
+    let size = c .before .before .before .before .before .before .find-size in
+    let a = c .before .before .before .before .before .before .before .before .before .args in
+    let none = none-are _ _ _ (size .ensures) (c .before .before .before .before .if1 .taken) in
+    let marks = c .before .before .clear .ensures ∙ ap (λ (xs : List ℕ). written 0 xs (a .marks .now)) none in
+    (found _ _ _ (size .ensures) _ _ marks, marks)
+
+returns-2 : tie.Need-returns-2
+returns-2 c =
+    let size = c .before .before .before .before .before .before .find-size in
+    let a = c .before .before .before .before .before .before .before .before .before .args in
+    let marks = c .before .before .mark .ensures ∙ ap (λ (xs : List ℕ). written 0 xs (a .marks .now)) (marks-are _ _ _ (size .ensures)) in
+    (found _ _ _ (size .ensures) _ _ marks, marks)
 
 pub find-group-spec : {M : Type 1} → statement M
 find-group-spec =
     tie.close
-    (tie.spec (λ c κs. c .before .pre .total) (λ c κs. search needs)
-    (λ c.
-    let s = c .before .before .before in
-    let low : c .most .result ≤ mostTurnover = omega (arith, c .most .ensures .least _ (λ i l. place-le (s .args .turnovers .now) i l), s .pre .total) in
-    omega (arith, mul-le-mul {n₁ = s .args .z} {m₁ = c .most .result} {n₂ = mostPanel} {m₂ = mostTurnover} (s .pre .most) low))
-    (λ c.
-    let total = c .before .before .total in
-    none-takes-all _ _ _ (total .result) (c .before .before .before .before .pre) (c .before .most .ensures) (total .ensures) (c .if1 .taken))
-    (λ c κs. c .before .before .before .before .pre) (λ c. sym (c .before .largest-units .ensures .0))
-    (λ c κs.
-    let s = c .before .before .before .before .before .before in
-    let top = c .before .largest-units .ensures in
-    ((s .pre, c .before .before .before .before .total .ensures), (omega (arith, top .0, s .pre .most), top .1)))
-    (λ c. c .grow .ensures))
+    (tie.spec (λ c κs. search needs) (λ c κs. search needs) (λ c κs. search needs) (λ c. search needs) returns (λ c. search needs) returns-2)

@@ -4,7 +4,7 @@ use borrow.Author.Needs.{needs}
 use Rattle.rules.specs.TakeAll.{takeAllRefusal, takeAllAnswer, takeAllMarks}
 use Rattle.refusals.specs.Number.{verdictOf}
 use Rattle.refusals.proofs.Numbers.{number-is-suc}
-use Rattle.group.proofs.Accepted.{sized, group-is}
+use Rattle.group.proofs.Accepted.{sized}
 use Rattle.group_entry.proofs.Accepted.{accepted}
 use Rattle.group_entry.proofs.take_all.Statement.{statement}
 use Rattle.group_entry.proofs.take_all.Tie as tie
@@ -16,10 +16,7 @@ none : (c : tie.After-enum-told) →
 none c = sym (c .before .before .judge .ensures) ∙ ap verdictOf (c .enum-told .given .1)
 
 find-group-requires : tie.Need-find-group-requires
-find-group-requires c κs = sized _ _ (accepted _ _ _ (none c) .units)
-
-mark-requires : tie.Need-mark-requires
-mark-requires c κs = (accepted _ _ _ (none (c .before .before)) .room, c .before .find-group .ensures .last-is)
+find-group-requires c κs = let ok = accepted _ _ _ (none (c .before)) in (sized _ _ (ok .units), ok .room)
 
 returns : tie.Need-returns
 unfolding takeAllAnswer takeAllMarks
@@ -30,11 +27,12 @@ returns c =
 returns-2 : tie.Need-returns-2
 unfolding takeAllAnswer takeAllMarks
 returns-2 c =
-    let g = c .before .before .before .before .find-group .ensures in
-    rw (none (c .before .before .before .before .before), ← group-is _ _ _ g, ← g .size) (refl, c .before .before .mark .ensures)
+    let found = c .before .before .find-group .ensures in
+    let g = found .0 in
+    rw (none (c .before .before .before .before), ← g .size, ← g .agrees .size-is, ← g .agrees .rest-is) (refl, found .1)
 
 pub take-all-spec : {M : Type 1} → statement M
 take-all-spec =
     tie.close
-    (tie.spec (λ c κs. search needs) (λ c. search needs) (λ c. search needs) find-group-requires mark-requires (λ c. search needs) returns
+    (tie.spec (λ c κs. search needs) (λ c. search needs) (λ c. search needs) find-group-requires (λ c. search needs) returns
     (λ c. search needs) returns-2)

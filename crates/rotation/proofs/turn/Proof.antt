@@ -1,18 +1,24 @@
 -- `turn` meets its contract: what its callees ensure, put together by the laws of `Composition`.
-use mathlib.Core.Path.{sym}
+use mathlib.Core.Path.{_≡_, sym, ap, _∙_}
 use mathlib.Core.List.{List}
-use Prim.Native.Nat.{ℕ}
+use Prim.Native.Nat.{ℕ, _≤_}
 use native.Mathlib.Omega.{arith}
+use lib.ListN.{length, take}
+use lib.Seq.{length-take-le}
 use borrow.Author.Needs.{needs}
+use Rattle.rules.specs.Limits.{mostFrame}
+use Rattle.rules.specs.Selection.{listed}
 use Rattle.rules.specs.TakeAll.{frame}
+use Rattle.rules.specs.Rotation.{required}
 use Rattle.frame.proofs.Accepted.{Accepted}
-use Rattle.group.proofs.Accepted.{sized, own-size}
-use Rattle.draw_terms.specs.Gaps.{Gaps}
-use Rattle.rotation_members.proofs.Held.{hold-most}
+use Rattle.selection.proofs.Held.{held-room}
+use Rattle.group.proofs.Accepted.{sized, sound}
+use Rattle.rotation_members.specs.Members.{memberBy}
+use Rattle.rotation_members.proofs.Filling.{fill-held, fill-few}
 use Rattle.rotation_step.specs.Search.{Searched}
-use Rattle.rotation_step.proofs.Starts.{start-low}
+use Rattle.rotation_step.proofs.Starts.{moved}
 use Rattle.rotation_judge.proofs.Accepted.{OldAccepted}
-use Rattle.rotation.proofs.Composition.{frame-ok, old-ok, searched, left-within, left-fewer, turn-refused, turn-given}
+use Rattle.rotation.proofs.Composition.{frame-ok, old-ok, searched, turn-refused, turn-given}
 use Rattle.rotation.proofs.turn.Statement.{statement}
 use Rattle.rotation.proofs.turn.Tie as tie
 
@@ -24,71 +30,108 @@ module _ (s : tie.Start) where
   old : OldAccepted (s .args .panel .now) (s .args .fraction) (s .args .leavers .now)
   old = old-ok _ _ _ _ _ _ _ _ (s .pre)
 
+-- there is a mark for each unit
+marks-room :
+    (c : tie.After-find-group) →
+    let s = c .before .before .before .before .before .before .before in
+    length (s .args .turnovers .now) ≤ length (c .find-group .last .1 .1 .0)
+marks-room c = rw (c .find-group .kept .1 .1 .0) (whole (c .before .before .before .before .before .before .before) .units .few)
+
 -- once the members are found
 module _ (c : tie.After-members) where
   abbrev entry : tie.Start
-  entry = c .before .before .before .before .before .before .before .before .before .before
+  entry = c .before .before .before .before .before .before .before .before .before .before .before .before .before .before .before
 
-  asked : (gs : List ℕ) →
+  -- the group and the gaps, found before
+  abbrev found : tie.After-find-group
+  found = c .before .before .before .before .before .before .before .before
+
+  abbrev filled : tie.After-fill
+  filled = c .before .before .before .before
+
+  -- the marks, the list, and the places of the members in front of it
+  abbrev marks : List ℕ
+  marks = found .find-group .last .1 .1 .0
+
+  abbrev places : List ℕ
+  places = c .members .last .1 .1 .1 .0
+
+  abbrev units : List ℕ
+  units = take (c .members .result) places
+
+  room : c .members .result ≤ length places
+  room = held-room (fill-held (c .members .ensures .0))
+
+  many : length units ≡ c .members .result
+  many = length-take-le (c .members .result) places room
+
+  few : c .members .result ≤ mostFrame
+  few = let f = fill-few (c .members .ensures .0) in omega (arith, whole entry .numbersLength, whole entry .units .few)
+
+  units-are : let a = entry .args in units ≡ listed (memberBy (a .numbers .now) marks (a .panel .now)) (λ i. i) (length (a .numbers .now))
+  units-are = fill-held (c .members .ensures .0) .units-are
+
+  asked :
       let a = entry .args in
-      let g = c .before .before .before .before .find-group .result in
-      Gaps (a .turnovers .now) g gs → Searched (a .turnovers .now) (a .randoms .now) gs g (c .members .result)
-  asked gs w = searched _ _ _ _ _ _ _ _ (entry .pre) _ (c .before .before .before .before .find-group .ensures) _ (c .members .ensures .0) gs w
+      let g = found .find-group .result in
+      Searched (a .turnovers .now) (a .randoms .now) (filled .fill .last .1 .1 .1 .1 .0) units
+      (record { start = a .old; n = g .n; rest = g .rest }) (a .z)
+  asked = searched _ _ _ _ _ _ _ _ (entry .pre) _ _ (found .find-group .ensures .0) _ (filled .fill .ensures) _ units-are
+
+-- once it is known how many must leave
+need-is : (c : tie.After-required) → c .required .result ≡ required (entry (c .before .before) .args .fraction) (length (units (c .before .before)))
+need-is c = c .required .ensures ∙ ap (required (entry (c .before .before) .args .fraction)) (sym (many (c .before .before)))
 
 fill-requires : tie.Need-fill-requires
 fill-requires c κs =
-    let s = c .before .before .before .before .before .before .before in
-    let own = own-size _ _ _ (c .before .find-group .ensures) (sized _ _ (whole s .units)) in
-    (own .0, own .1, whole s .units .few)
+    let k = whole (c .before .before .before .before .before .before .before .before .before .before) .units in
+    let a = c .before .before .before .before .before .before .before .before .before .before .args in
+    let size = c .before .before .before .find-group .ensures .0 .agrees .size-is in
+    let parts = sound (a .turnovers .now) (a .z) (k .sizeWithin) .parts in
+    ((k .total, omega (arith, size, parts, k .sizeFew)), (marks-room (c .before .before .before), k .few))
 
 members-requires : tie.Need-members-requires
 members-requires c κs =
-    let s = c .before .before .before .before .before .before .before .before .before in
-    ((whole s .rises, old s .rises, old s .most), (whole s .numbersLength, c .before .before .before .find-group .ensures .last-is))
-
-first-step-requires : tie.Need-first-step-requires
-first-step-requires c κs =
-    let m = c .before .before in
-    (asked m _ (m .before .before .fill .ensures), whole (entry m) .startLow)
+    let s = c .before .before .before .before .before .before .before .before .before .before .before .before .before .before in
+    let marked = marks-room (c .before .before .before .before .before .before .before) in
+    ((whole s .rises, old s .rises), (rw (whole s .numbersLength) marked, rw (whole s .numbersLength) (whole s .units .few)))
 
 returns : tie.Need-returns
 returns c =
     let k = c .before in
-    let m = k .before .before .before in
-    turn-refused _ _ _ _ _ _ _ _ (entry m .pre) _ (m .before .before .before .before .find-group .ensures) _ (m .members .ensures .0) _ _
-    (k .first-step .ensures) (k .before .before .required .ensures) (c .if1 .taken)
+    let n = k .before .before .before in
+    let m = n .before .before in
+    turn-refused _ _ _ _ _ _ _ _ (entry m .pre) _ _ (found m .find-group .ensures .0) _ (filled m .fill .ensures) _ (units-are m) _ _
+    (k .first-step .ensures) (need-is n) (c .if1 .taken)
 
-find-leavers-requires : tie.Need-find-leavers-requires
-find-leavers-requires c κs =
-    let m = c .before .before .before .before .before .before in
-    (asked m _ (m .before .before .fill .ensures), start-low _ _ _ (c .before .start-at .ensures))
-
-write-numbers-requires : tie.Need-write-numbers-requires
-write-numbers-requires c κs =
-    let m = c .before .before .before .before .before .before .before .before in
+write-requires : tie.Need-write-requires
+write-requires c κs =
+    let m = c .before .before .before .before .before .before .before .before .before .before in
     let s = entry m in
-    let found = m .before .before .before .before .find-group in
-    let left = c .before .find-leavers in
-    let fewer = left-fewer _ _ _ _ _ _ _ _ (s .pre) _ (found .ensures) _ (m .members .ensures .0) _ _ (left .ensures) in
-    let within = left-within _ _ _ _ _ _ _ _ (s .pre) _ (found .ensures) _ (m .members .ensures .0) _ _ (left .ensures) in
-    (within, omega (arith, fewer, m .members .ensures .1, old s .long))
+    let most = few m in
+    let fewer = m .members .ensures .1 in (
+      moved _ _ _ _ _ _ (asked m) _ _ (c .before .before .before .setting-at .ensures),
+      (whole s .numbersLength, rw (many m) most, rw (many m) (omega (arith, fewer, old s .long))),
+    )
 
 returns-2 : tie.Need-returns-2
 returns-2 c =
-    let l = c .before .before .before .before in
-    let at = l .before .before in
+    let w = c .before .before in
+    let at = w .before .before .before .before in
     let k = at .before .before in
-    let m = k .before .before .before in
-    turn-given _ _ _ _ _ _ _ _ (entry m .pre) _ (m .before .before .before .before .find-group .ensures) _ (m .members .ensures .0) _ _
-    (k .first-step .ensures) (k .before .before .required .ensures) _ (at .start-at .ensures) _ (l .find-leavers .ensures) (at .before .if1 .left) _
-    (c .before .before .write-numbers .ensures)
+    let n = k .before .before .before in
+    let m = n .before .before in
+    turn-given _ _ _ _ _ _ _ _ (entry m .pre) _ _ (found m .find-group .ensures .0) _ (filled m .fill .ensures) _ (units-are m) _ _
+    (k .first-step .ensures) (need-is n) _ (at .setting-at .ensures) (at .before .if1 .left) _ (w .write .ensures .0) _ (w .write .ensures .1)
 
 pub turn-spec : {M : Type 1} → statement M
 turn-spec =
     tie.close
-    (tie.spec (λ c κs. sized _ _ (whole (c .before .before .before .before .before) .units)) (λ c. search needs) fill-requires members-requires
-    (λ c κs. (old (entry c) .scaled, hold-most _ _ _ _ (c .members .ensures .0))) (λ c. sym (c .before .before .before .before .fill .kept .1 .1 .0))
-    first-step-requires returns
-    (λ c κs. (whole (entry (c .before .before .before .before)) .startLow, omega arith))
-    (λ c. sym (c .before .before .before .before .before .before .before .before .fill .kept .1 .1 .0)) find-leavers-requires write-numbers-requires
-    (λ c. search needs) returns-2)
+    (tie.spec (λ c. search needs) (λ c κs. let k = whole (c .before .before .before .before .before .before) .units in (sized _ _ k, k .few))
+    (λ c. search needs) (λ c. search needs)
+    fill-requires (λ c. search needs) (λ c. search needs) members-requires (λ c κs. (old (entry (c .before)) .scaled, few (c .before)))
+    (λ c. search needs) (λ c. room (c .before .before .before)) (λ c. sym (many (c .before .before .before .before)))
+    (λ c κs. asked (c .before .before .before .before)) returns
+    (λ c κs. (whole (entry (c .before .before .before .before .before .before)) .startLow, omega arith)) (λ c. search needs)
+    (λ c. room (c .before .before .before .before .before .before .before .before))
+    (λ c. sym (many (c .before .before .before .before .before .before .before .before .before))) write-requires (λ c. search needs) returns-2)

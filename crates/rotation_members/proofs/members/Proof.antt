@@ -1,83 +1,107 @@
--- `members` meets its contract: the loop holds, of the units found so far, those outside take-all, and the second look at the found units
--- alone gives what a look at the whole frame would.
-use mathlib.Core.Path.{_≡_, refl, sym, ap, _∙_, subst}
-use mathlib.Core.Logic.{⊎-elim}
-use mathlib.Core.Bool.{Bool, not}
+-- `members` meets its contract: the list is filled with the members below unit i, and the old panel is passed as far.
+use mathlib.Core.Path.{_≡_, refl, sym, ap, _∙_}
+use mathlib.Core.Bool.{true, false, not}
 use mathlib.Core.List.{List}
+use mathlib.Core.Logic.{⊎-elim}
 use Prim.Native.Nat.{ℕ, _+_, _-_, _≤_, _<_}
 use native.Mathlib.Omega.{arith}
-use lib.ListN.{length, getD}
+use lib.ListN.{length, getD, set}
 use borrow.Author.Needs.{needs}
-use Rattle.rules.specs.Limits.{mostPanel}
-use Rattle.rules.specs.Tests.{_and_}
-use Rattle.rules.specs.TakeAll.{largest}
-use Rattle.rules.specs.Rotation.{member}
-use Rattle.rotation_members.specs.Places.{Holding, PlacesOf, inPanel}
-use Rattle.rotation_members.proofs.Held.{held, hold-none, hold-not, hold-more, hold-same, hold-most, place-low, holding-both}
+use borrow.Author.Tests.{eq-eqb, ne-eqb}
+use Rattle.rules.specs.Lists.{rising, elem}
+use Rattle.rules.proofs.Tests.{and-on, and-off}
+use Rattle.group.specs.Group.{marked}
+use Rattle.rotation_members.specs.Members.{memberBy}
+use Rattle.rotation_members.specs.Passed.{Reached, stands}
+use Rattle.rotation_members.specs.Filled.{Filled}
+use Rattle.rotation_members.proofs.Passing.{Standing, stand-first, stand-on, stand-over, reached-elem}
+use Rattle.rotation_members.proofs.Filling.{fill-none, fill-not, fill-more, fill-few, fill-length}
 use Rattle.rotation_members.proofs.members.Statement.{statement}
 use Rattle.rotation_members.proofs.members.Tie as tie
 
--- the unit at place k of `units` is not one of the q largest
-abbrev stays : List ℕ → ℕ → List ℕ → ℕ → Bool
-stays turnovers q units k = not (largest turnovers q (getD units k 0))
+-- where a turn stands: the old panel passed as far as the frame, and the list filled with the members so far
+abbrev At : List ℕ → List ℕ → List ℕ → List ℕ → List ℕ → ℕ → ℕ → ℕ → Type 0
+At numbers marks panel before after count j i = Standing numbers panel i j count × Filled (memberBy numbers marks panel) (λ k. k) i before after count
+
+-- a turn at unit i, for whom the search in the old panel stops at r
+module _ (numbers marks panel before after : List ℕ) (count j i r : ℕ) (at : At numbers marks panel before after count j i)
+    (up : rising numbers ≡ true) (old : rising panel ≡ true) (l : i < length numbers) (h : Reached panel j (getD numbers i 0) r) where
+  in-panel : elem (getD numbers i 0) panel ≡ stands panel r (getD numbers i 0)
+  in-panel = reached-elem h old
+
+  turn-out : stands panel r (getD numbers i 0) ≡ false → At numbers marks panel before after count r (i + 1)
+  unfolding memberBy
+  turn-out e = (stand-on (at .0) up l h, fill-not (at .1) (and-off _ _ (in-panel ∙ e)))
+
+  module _ (e : stands panel r (getD numbers i 0) ≡ true) where
+    turn-taken : getD marks i 0 ≡ 1 → At numbers marks panel before after count (r + 1) (i + 1)
+    unfolding memberBy marked
+    turn-taken t = (stand-over (at .0) up l h count e (omega arith), fill-not (at .1) (and-on _ _ (in-panel ∙ e) ∙ ap not (eq-eqb _ 1 t)))
+
+    turn-kept : (getD marks i 0 ≡ 1 → ⊥) → count < length before → At numbers marks panel before (set after count i) (count + 1) (r + 1) (i + 1)
+    unfolding memberBy marked
+    turn-kept t room =
+        (stand-over (at .0) up l h (count + 1) e (omega arith), fill-more (at .1) i (and-on _ _ (in-panel ∙ e) ∙ ap not (ne-eqb _ 1 t)) refl room)
 
 abbrev Inv-loop : tie.InvT-loop
-Inv-loop numbers turnovers panel g units many places₀ kept₀ j₀ places kept j =
-    (j ≤ many) × (kept ≤ j) × Holding (stays turnovers (g .q) units) (λ k. getD units k 0) j (held places kept)
+Inv-loop numbers marks panel places₀ count₀ j₀ i₀ places count j i = At numbers marks panel places₀ places count j i
 
 abbrev μ-loop : tie.MeasureT-loop
-μ-loop numbers turnovers panel g units many places₀ kept₀ j₀ places kept j = many - j
+μ-loop numbers marks panel places₀ count₀ j₀ i₀ places count j i = length numbers - i
 
--- the units found, and the entry
-module _ (c : tie.After-in-frame Inv-loop μ-loop) where
-  abbrev start : tie.Start Inv-loop μ-loop
-  start = c .before .before .before .before
+-- in a turn there is room for one more member
+module _ (c : tie.In-loop Inv-loop μ-loop) where
+  abbrev entry : tie.Start Inv-loop μ-loop
+  entry = c .before .before .before .before .before .before
 
-  few : c .in-frame .result .count ≤ mostPanel
-  few = hold-most _ _ _ _ (c .in-frame .ensures .0)
+  room : c .before .loop .count < length (entry .args .places .now)
+  room = omega (arith, fill-few (c .before .loop .inv .1), entry .pre .1 .1)
+
+  kept-length : length (c .before .loop .places) ≡ length (entry .args .places .now)
+  kept-length = let r = room in fill-length (c .before .loop .inv .1) (omega arith)
 
 loop-again : tie.Need-loop-again Inv-loop μ-loop
 loop-again c =
-    let at = c .before .before .before .loop in
-    let found = c .before .before .before .before .before in
-    let a = start found .args in
-    let units = found .in-frame .result .places in
-    let mark = stays (a .turnovers .now) (a .g .q) units in
-    let now = hold-same mark (λ k. getD units k 0) (at .j + 1) in
-    let test = ap not (sym (c .before .takes-all .ensures)) in
-    let next : at .j + 1 ≤ found .in-frame .result .count = omega arith in
-    let room : at .kept < length (at .places) = omega (arith, at .inv .2 .room, few found) in
+    let turn = c .before .before .before .before .before in
+    let pre = entry turn .pre .0 in
+    let at = turn .before .loop in
+    let sought = c .before .before .before .seek in
+    let here = sym (c .before .stands-at .ensures) in
+    let l = turn .loop-test .taken in
     ⊎-elim
-    (λ w. (next, omega (arith, w .2, at .inv .1), now _ _ _ _ (w .1) (w .2) (hold-more mark _ (at .j) (at .places) (at .kept) (test ∙ w .0 .taken) room (at .inv .2))))
-    (λ w. (next, omega (arith, w .2, at .inv .1), now _ _ _ _ (w .1) (w .2) (hold-not mark _ (at .j) (held (at .places) (at .kept)) (test ∙ w .0 .left) (at .inv .2))))
+    (λ w.
+    let found = here ∙ w .0 .taken in
+    ⊎-elim
+    (λ v.
+    let kept = turn-kept _ _ _ _ _ _ _ _ _ (at .inv) (pre .0) (pre .1) l (sought .ensures) found in
+    rw (w .3 ∙ v .1, w .4 ∙ v .2, w .5) (kept (v .0 .taken) (room turn)))
+    (λ v.
+    let taken = turn-taken _ _ _ _ _ _ _ _ _ (at .inv) (pre .0) (pre .1) l (sought .ensures) found in
+    rw (w .3 ∙ v .1, w .4 ∙ v .2, w .5) (taken (v .0 .left)))
+    (w .2 .came))
+    (λ w. rw (w .1, w .2, w .3) (turn-out _ _ _ _ _ _ _ _ _ (at .inv) (pre .0) (pre .1) l (sought .ensures) (here ∙ w .0 .left)))
     (c .if1 .came)
 
-returns : tie.Need-returns Inv-loop μ-loop
-unfolding member inPanel
-returns c =
-    let found = c .before .before .before in
-    let s = start found in
-    let a = s .args in
+same-length : tie.Need-same-length Inv-loop μ-loop
+same-length c =
+    let s = c .before .before .before .before .before .before in
     let at = c .before .loop in
-    let kept = held (at .places) (at .kept) in
-    let units = found .in-frame .result .places in
-    let others : ℕ → Bool = λ i. not (largest (a .turnovers .now) (a .g .q) i) in
-    let end : at .j ≡ found .in-frame .result .count = omega arith in
-    let all = subst (λ (k : ℕ). Holding (stays (a .turnovers .now) (a .g .q) units) (λ k. getD units k 0) k kept) end (at .inv .2) in
-    let both = holding-both (inPanel (a .numbers .now) (a .panel .now)) others (length (a .numbers .now)) _ (found .in-frame .ensures .0) kept all in (
-      subst (λ (n : ℕ). PlacesOf (λ i. inPanel (a .numbers .now) (a .panel .now) i and others i) n kept) (s .pre .1 .0) both,
-      omega (arith, found .in-frame .ensures .1),
-    )
+    fill-length (at .inv .1) (omega (arith, fill-few (at .inv .1), at .inv .0 .in-frame, s .pre .1 .1))
+
+returns : tie.Need-returns Inv-loop μ-loop
+returns c =
+    let at = c .before .loop in
+    let all : at .i ≡ length (c .before .before .before .before .before .before .args .numbers .now) = omega (arith, at .inv .0 .in-frame) in
+    (rw all at (at .inv .1), omega (arith, at .inv .0 .fewer, at .inv .0 .in-list))
 
 pub members-spec : {M : Type 1} → statement M
 members-spec =
     tie.close
-    (tie.spec Inv-loop μ-loop (λ c κs. c .before .before .before .pre .0) (λ c. (omega arith, omega arith, hold-none _ _ _ refl))
-    (λ c. omega (arith, few (c .before .before .before))) (λ c. omega (arith, few (c .before .before .before), c .before .before .before .in-frame .ensures .0 .room))
-    (λ c κs.
-    let found = c .before .before .before in
-    let s = start found in
-    (omega (arith, place-low _ _ _ (found .in-frame .ensures .0) (c .before .loop .j) (c .loop-test .taken), s .pre .1 .0), s .pre .1 .1))
-    (λ c. omega (arith, few (c .before .before .before .before .before))) (λ c. omega (arith, few (c .before .before .before .before .before)))
-    (λ c. omega (arith, few (c .before .before .before .before .before))) (λ c. omega (arith, few (c .before .before .before .before .before)))
-    (λ c. search needs) loop-again returns)
+    (tie.spec Inv-loop μ-loop (λ c. (stand-first _ _, fill-none)) (λ c. search needs) (λ c. search needs)
+    (λ c κs. c .before .before .loop .inv .0 .passed (c .before .loop-test .taken)) (λ c. search needs) (λ c. search needs) (λ c κs. search needs)
+    (λ c. let turn = c .before .before .before .before .before .before in omega (arith, turn .loop-test .taken, entry turn .pre .1 .0))
+    (λ c. let turn = c .before .before .before .before .before .before .before in omega (arith, room turn, entry turn .good))
+    (λ c. let turn = c .before .before .before .before .before .before .before in omega (arith, room turn, kept-length turn))
+    (λ c. let turn = c .before .before .before .before .before .before .before in omega (arith, room turn, entry turn .good))
+    (λ c. omega (arith, c .before .before .before .before .before .seek .ensures .passed .within)) (λ c. search needs) (λ c. search needs) loop-again
+    same-length returns)

@@ -6,44 +6,41 @@ use borrow.Author.Needs.{needs}
 use Rattle.rules.specs.Limits.{steps}
 use Rattle.rules.specs.Selection.{leastFrom}
 use Rattle.selection.proofs.Least.{least-hit, least-miss, least-end}
-use Rattle.group.specs.Group.{rulesGroup}
-use Rattle.draw_terms.specs.Terms.{unnumbered}
 use Rattle.rotation_step.specs.Leaving.{enoughLeave, firstStep}
-use Rattle.rotation_step.proofs.Starts.{start-low, enough, too-few}
+use Rattle.rotation_step.proofs.Starts.{moved, enough, too-few}
 use Rattle.rotation_step.proofs.first_step.Statement.{statement}
 use Rattle.rotation_step.proofs.first_step.Tie as tie
 
 abbrev Inv-loop : tie.InvT-loop
-Inv-loop turnovers randoms gaps g members old need k₀ k =
-    let test = enoughLeave (unnumbered turnovers randoms) (rulesGroup turnovers g) members old need in
-    (k ≤ steps) × (firstStep (unnumbered turnovers randoms) (rulesGroup turnovers g) members old need ≡ leastFrom test (steps - k) k)
+Inv-loop turnovers randoms gaps members s z need k₀ k =
+    (k ≤ steps) × (firstStep turnovers randoms gaps members s need ≡ leastFrom (enoughLeave turnovers randoms gaps members s need) (steps - k) k)
 
 abbrev μ-loop : tie.MeasureT-loop
-μ-loop turnovers randoms gaps g members old need k₀ k = steps - k
+μ-loop turnovers randoms gaps members s z need k₀ k = steps - k
 
 loop-holds : tie.Need-loop-holds Inv-loop μ-loop
 unfolding firstStep
 loop-holds c = (omega arith, refl)
 
-start-at-requires : tie.Need-start-at-requires Inv-loop μ-loop
-start-at-requires c κs = (c .before .before .before .before .before .pre .1, omega arith)
+setting-at-requires : tie.Need-setting-at-requires Inv-loop μ-loop
+setting-at-requires c κs = (c .before .before .before .before .before .before .pre .units .start-low, omega arith)
 
-find-leavers-requires : tie.Need-find-leavers-requires Inv-loop μ-loop
-find-leavers-requires c κs = (c .before .before .before .before .before .before .pre .0, start-low _ _ _ (c .start-at .ensures))
+count-leavers-requires : tie.Need-count-leavers-requires Inv-loop μ-loop
+count-leavers-requires c κs = moved _ _ _ _ _ _ (c .before .before .before .before .before .before .before .pre) _ _ (c .setting-at .ensures)
 
 returns : tie.Need-returns Inv-loop μ-loop
 returns c =
-    let at = c .before .before in
+    let at = c .before in
     let l = at .before .before .before .loop in
-    let hit = enough _ _ _ _ _ (l .k) _ (at .before .start-at .ensures) _ (at .find-leavers .ensures) (c .if1 .taken) in
+    let hit = enough _ _ _ _ _ _ _ (l .k) (at .before .setting-at .ensures) _ (at .count-leavers .ensures) (c .if1 .taken) in
     let below : l .k < steps = omega (arith, at .before .before .loop-test .taken) in
     sym (l .inv .1 ∙ least-hit _ steps (l .k) below hit)
 
 loop-again : tie.Need-loop-again Inv-loop μ-loop
 loop-again c =
-    let at = c .before .before in
+    let at = c .before in
     let l = at .before .before .before .loop in
-    let miss = too-few _ _ _ _ _ (l .k) _ (at .before .start-at .ensures) _ (at .find-leavers .ensures) (c .if1 .left) in
+    let miss = too-few _ _ _ _ _ _ _ (l .k) (at .before .setting-at .ensures) _ (at .count-leavers .ensures) (c .if1 .left) in
     let below : l .k < steps = omega (arith, at .before .before .loop-test .taken) in
     (omega arith, l .inv .1 ∙ least-miss _ steps (l .k) below miss)
 
@@ -56,4 +53,4 @@ returns-2 c =
 pub first-step-spec : {M : Type 1} → statement M
 first-step-spec =
     tie.close
-    (tie.spec Inv-loop μ-loop loop-holds start-at-requires find-leavers-requires returns (λ c. search needs) (λ c. search needs) loop-again returns-2)
+    (tie.spec Inv-loop μ-loop loop-holds setting-at-requires count-leavers-requires returns (λ c. search needs) (λ c. search needs) loop-again returns-2)

@@ -1,0 +1,17 @@
+-- The gaps of a frame's units (document 01, "Draw"): the part of a key that no start changes, known before any start is looked at.
+use mathlib.Core.Path.{_≡_}
+use mathlib.Core.Bool.{cond}
+use mathlib.Core.List.{List}
+use Prim.Native.Nat.{ℕ, _-_, _*_, _≤_, _<_}
+use lib.ListN.{length, getD}
+use Rattle.rules.specs.TakeAll.{turnover}
+use Rattle.group.specs.Group.{marked}
+
+-- "X − n × turnover" of "a unit outside take-all"; a take-all unit has no key, and 0 here
+unfoldable pub gapOf : List ℕ → List ℕ → ℕ → ℕ → ℕ → ℕ
+gapOf ts marks n rest i = cond (marked marks i) 0 (rest - n * turnover ts i)
+
+-- gs holds the gap of each unit
+pub record Gaps (ts marks : List ℕ) (n rest : ℕ) (gs : List ℕ) : Type 0 where
+  pub room : length ts ≤ length gs
+  pub at : (i : ℕ) → i < length ts → getD gs i 0 ≡ gapOf ts marks n rest i
