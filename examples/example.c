@@ -61,14 +61,14 @@ int main(void) {
     uint64_t weights[PANEL];
     uint64_t record[VOUGECRESS_RECORD];
     draw(0, panel, weights);
-    open_chain(weights, (const uint32_t[]){10000, 10000, 10000}, VOUGECRESS_INDEX_OF_100, record);
+    open_chain(weights, (const uint32_t[]){100000, 100000, 100000}, VOUGECRESS_INDEX_OF_100, record);
 
-    /* Measured against the opening: 2 percent, and then 2 percent more, are 10,200 and 10,404. */
-    quarter("first quarter", record, (const uint32_t[]){10200, 10200, 10200});
-    quarter("second quarter", record, (const uint32_t[]){10404, 10404, 10404});
-    quarter("third quarter", record, (const uint32_t[]){10500, 9900, 11500});
+    /* Measured against the opening: 2 percent, and then 2 percent more, are 102,000 and 104,040. */
+    quarter("first quarter", record, (const uint32_t[]){102000, 102000, 102000});
+    quarter("second quarter", record, (const uint32_t[]){104040, 104040, 104040});
+    quarter("third quarter", record, (const uint32_t[]){105000, 99000, 115000});
     struct vougecress_figure close =
-        vougecress_close(record, VOUGECRESS_RECORD, (const uint32_t[]){10500, 9800, 12000}, PANEL);
+        vougecress_close(record, VOUGECRESS_RECORD, (const uint32_t[]){105000, 98000, 120000}, PANEL);
     accepted("close", close.refusal);
     printf("close of the year: %" PRIu64 "\n", close.figure);
 
@@ -80,12 +80,12 @@ int main(void) {
     for (uint64_t i = 0; i < turn.count; i++) printf(" %" PRIu32, leavers[i]);
     printf("\n");
     draw(turn.start, panel, weights);
-    open_chain(weights, (const uint32_t[]){10500, 10300, 9800}, close.figure, record);
-    quarter("first quarter", record, (const uint32_t[]){10000, 10100, 10200});
+    open_chain(weights, (const uint32_t[]){105000, 103000, 98000}, close.figure, record);
+    quarter("first quarter", record, (const uint32_t[]){100000, 101000, 102000});
 
     /* A refused call answers its number, and the record is as it was. */
-    uint32_t refusal = vougecress_quarter(record, VOUGECRESS_RECORD, (const uint32_t[]){2499, 10000, 10000}, PANEL).refusal;
-    printf("a relative of 2,499: refusal %" PRIu32 "%s\n", refusal, refusal == VOUGECRESS_REFUSED_RELATIVES ? " (relatives)" : "");
+    uint32_t refusal = vougecress_quarter(record, VOUGECRESS_RECORD, (const uint32_t[]){24999, 100000, 100000}, PANEL).refusal;
+    printf("a relative of 24,999: refusal %" PRIu32 "%s\n", refusal, refusal == VOUGECRESS_REFUSED_RELATIVES ? " (relatives)" : "");
 
     const uint32_t shares[] = {600000, 400000};
     const uint64_t indices[] = {close.figure, VOUGECRESS_INDEX_OF_100};

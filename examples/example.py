@@ -86,13 +86,13 @@ def quarter(name, record, relatives):
 
 
 panel, weights = draw(0)
-record = open_chain(weights, [10_000, 10_000, 10_000], INDEX_OF_100)
+record = open_chain(weights, [100_000, 100_000, 100_000], INDEX_OF_100)
 
-# Measured against the opening: 2 percent, and then 2 percent more, are 10,200 and 10,404.
-quarter("first quarter", record, [10_200, 10_200, 10_200])
-quarter("second quarter", record, [10_404, 10_404, 10_404])
-quarter("third quarter", record, [10_500, 9_900, 11_500])
-close = accepted("close", LIBRARY.vougecress_close(*record, *lent(c_uint32, [10_500, 9_800, 12_000])))
+# Measured against the opening: 2 percent, and then 2 percent more, are 102,000 and 104,040.
+quarter("first quarter", record, [102_000, 102_000, 102_000])
+quarter("second quarter", record, [104_040, 104_040, 104_040])
+quarter("third quarter", record, [105_000, 99_000, 115_000])
+close = accepted("close", LIBRARY.vougecress_close(*record, *lent(c_uint32, [105_000, 98_000, 120_000])))
 print(f"close of the year: {close.figure}")
 
 leavers = lent(c_uint32, [0] * SIZE)
@@ -100,12 +100,12 @@ turn = accepted("rotation", LIBRARY.vougecress_rotate(*FRAME, c_size_t(SIZE), c_
 left = " ".join(str(unit) for unit in leavers[0][: turn.count])
 print(f"rotation of half: step {turn.k}, new start {turn.start}, leavers {left}")
 panel, weights = draw(turn.start)
-record = open_chain(weights, [10_500, 10_300, 9_800], close.figure)
-quarter("first quarter", record, [10_000, 10_100, 10_200])
+record = open_chain(weights, [105_000, 103_000, 98_000], close.figure)
+quarter("first quarter", record, [100_000, 101_000, 102_000])
 
 # A refused call answers its number, and the record is as it was.
-refusal = LIBRARY.vougecress_quarter(*record, *lent(c_uint32, [2_499, 10_000, 10_000])).refusal
-print(f"a relative of 2,499: refusal {refusal}{' (relatives)' if refusal == 13 else ''}")
+refusal = LIBRARY.vougecress_quarter(*record, *lent(c_uint32, [24_999, 100_000, 100_000])).refusal
+print(f"a relative of 24,999: refusal {refusal}{' (relatives)' if refusal == 13 else ''}")
 
 sectors = (*lent(c_uint32, [600_000, 400_000]), *lent(c_uint64, [close.figure, INDEX_OF_100]))
 total = accepted("total", LIBRARY.vougecress_total(*sectors))

@@ -9,11 +9,11 @@ or a close, the opening or the last accepted close, and never the quarter before
 The mistake: prices rise by 2 percent in one quarter and by 2 percent more in the
 next, and
 
-    relative unit 11 10200      and again      relative unit 11 10200
+    relative unit 11 102000      and again      relative unit 11 102000
     quarter                                    quarter
 
 are handed in. That is the same price twice, and gives the same figure twice.
-The second quarter's relative is 10404.
+The second quarter's relative is 104040.
 A line that is none of these, or a number that its bytes cannot hold, ends the
 script with status 2 and the line's number; nothing is written then. Whether a
 job makes sense is judged by the program that runs it. The work is in tools/job.py.

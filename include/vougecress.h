@@ -46,7 +46,7 @@ enum vougecress_refusal {
     VOUGECRESS_REFUSED_OLD_PANEL = 7,        /* f over 1,000, or old panel over 100 or not rising */
     VOUGECRESS_REFUSED_NO_STEP = 8,          /* no step rotates enough */
     VOUGECRESS_REFUSED_UNIT_LISTS = 9,       /* unit lists empty, over 100, or unequal to each other or to the record */
-    VOUGECRESS_REFUSED_BASE_WEIGHTS = 10,    /* a W of 0, or their sum over 10^14 */
+    VOUGECRESS_REFUSED_BASE_WEIGHTS = 10,    /* a W of 0, or their sum over 10^13 */
     VOUGECRESS_REFUSED_SHARES = 11,          /* a share over 10,000, or all 0 */
     VOUGECRESS_REFUSED_START_INDEX = 12,     /* start index outside 10^8 to 10^10 */
     VOUGECRESS_REFUSED_RELATIVES = 13,       /* a relative out of range, 0 for a present unit, or not 0 for an absent one */
@@ -58,7 +58,7 @@ enum vougecress_refusal {
     VOUGECRESS_REFUSED_STATE = 19,           /* open without a panel, quarter or close without a chain; a record that breaks a limit */
     VOUGECRESS_REFUSED_FRAME_FULL = 20,      /* a unit when 1,024 are held */
     VOUGECRESS_REFUSED_LOW_WEIGHT = 21,      /* a present u or v below 1,000,000, at open or after close */
-    VOUGECRESS_REFUSED_WEIGHT_SUM = 22,      /* sum of v over 10^14, at open or after close */
+    VOUGECRESS_REFUSED_WEIGHT_SUM = 22,      /* sum of v over 10^13, at open or after close */
     VOUGECRESS_REFUSED_FIGURE_RANGE = 23,    /* F outside 10^8 to 10^10 */
     VOUGECRESS_REFUSED_CLOSES_SPENT = 24,    /* forty closes accepted (quarter too) */
     VOUGECRESS_REFUSED_WRITING = 27,         /* lists given are unequal, or the buffer is shorter than the stream needs */
@@ -76,11 +76,11 @@ enum vougecress_refusal {
 #define VOUGECRESS_MOST_PANEL 100                            /* units of a panel, and of a record */
 #define VOUGECRESS_FRACTION_SCALE 1000                       /* the fraction of a rotation is in thousandths, 0 to this */
 #define VOUGECRESS_SHARE_SCALE 10000                         /* a whole share; shares are 0 to this */
-#define VOUGECRESS_RELATIVE_SCALE 10000                      /* a relative of no change */
-#define VOUGECRESS_LOWEST_RELATIVE 2500                      /* the range of a relative; 0 for an absent unit, and only for it */
-#define VOUGECRESS_HIGHEST_RELATIVE 40000
+#define VOUGECRESS_RELATIVE_SCALE 100000                     /* a relative of no change */
+#define VOUGECRESS_LOWEST_RELATIVE 25000                     /* the range of a relative; 0 for an absent unit, and only for it */
+#define VOUGECRESS_HIGHEST_RELATIVE 400000
 #define VOUGECRESS_LEAST_WEIGHT UINT64_C(1000000)            /* the least u or v of a unit that is present */
-#define VOUGECRESS_MOST_WEIGHT UINT64_C(100000000000000)     /* the W of an open in all, and the v of a record in all */
+#define VOUGECRESS_MOST_WEIGHT UINT64_C(10000000000000)      /* the W of an open in all, and the v of a record in all */
 #define VOUGECRESS_LOWEST_INDEX UINT64_C(100000000)          /* the range of an index: 10, */
 #define VOUGECRESS_HIGHEST_INDEX UINT64_C(10000000000)       /* to 1,000 */
 #define VOUGECRESS_INDEX_OF_100 UINT64_C(1000000000)
@@ -116,7 +116,7 @@ struct vougecress_figure {
 };
 
 /*
- * Opens a chain: W, shares g in ten-thousandths and updating relatives a in ten-thousandths, one a unit, and a start index.
+ * Opens a chain: W, shares g in ten-thousandths and updating relatives a in hundred-thousandths, one a unit, and a start index.
  * An updating relative leads from the reference year, in which the turnovers were made, to the opening.
  * Writes the first 103 places of `record`. Answers 0, or 6 (record shorter than 103), 9, 10, 11, 12, 13, 21 or 22.
  */
@@ -129,7 +129,7 @@ uint32_t vougecress_open(const uint64_t *weights, size_t weights_count,
 /*
  * What the relatives of a quarter and of a close are measured against: prices at the opening or, after a close, at the last
  * accepted close, and never at the quarter before. A price that rises by 2 percent in one quarter and by 2 percent more in the
- * next has the relatives 10,200 and 10,404; 10,200 twice is the usual mistake, and gives the same figure twice.
+ * next has the relatives 102,000 and 104,040; 102,000 twice is the usual mistake, and gives the same figure twice.
  */
 
 /* The figure F of a quarter with one relative a unit. Refusals 19, 9, 13, 23, 24. The record stays. */
@@ -137,7 +137,7 @@ struct vougecress_figure vougecress_quarter(const uint64_t *record, size_t recor
                                             const uint32_t *relatives, size_t relatives_count);
 
 /*
- * The figure F of a year's close. The record's index becomes F, each weight floor(v x p / 10,000), and one close is counted.
+ * The figure F of a year's close. The record's index becomes F, each weight floor(v x p / 100,000), and one close is counted.
  * Refusals 19, 9, 13, 21, 22, 23, 24.
  */
 struct vougecress_figure vougecress_close(uint64_t *record, size_t record_count,

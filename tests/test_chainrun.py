@@ -12,7 +12,7 @@ TOP = Path(__file__).resolve().parent.parent
 CHAINRUN = TOP / "target" / "bin" / "chainrun"
 
 # 6, 7, 8, 9, 10 and 14 cannot occur in a stream (docs/DECISIONS.md, "What cannot be refused in a stream").
-REFUSALS = {1, 2, 3, 4, 5, 11, 12, 13, 15, 16, 17, 18, 19, 20, 21, 22, 23, 24}
+REFUSALS = {1, 2, 3, 4, 5, 10, 11, 12, 13, 15, 16, 17, 18, 19, 20, 21, 22, 23, 24}
 
 
 FILL = b"\xa5"  # in no text

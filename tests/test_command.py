@@ -25,8 +25,8 @@ FRAME = (
     b"unit 11 70000000 300000\nunit 12 10000000 500000\nunit 13 8000000 200000\n"
     b"unit 14 7000000 900000\nunit 15 5000000 100000\n"
 )
-OPENED = FRAME + b"draw 3 0\nrelative 0 10000\nrelative 1 10000\nrelative 2 10000\nopen 1000000000\n"  # 10 lines
-SAME = b"relative 0 10000\nrelative 1 10000\nrelative 2 10000\n"
+OPENED = FRAME + b"draw 3 0\nrelative 0 100000\nrelative 1 100000\nrelative 2 100000\nopen 1000000000\n"  # 10 lines
+SAME = b"relative 0 100000\nrelative 1 100000\nrelative 2 100000\n"
 
 
 # Arguments
@@ -213,6 +213,14 @@ REFUSED = [
     (FRAME + b"draw 101 0\n", 5, "refusal 5: size 101 is over 100"),
     (FRAME + b"draw 6 0\n", 5, "refusal 5: size 6 is over the 5 units given"),
     (
+        b"".join(b"unit %d 83333333333 %d\n" % (i + 1, 1_000 * i) for i in range(12))
+        + b"draw 11 0\n"
+        + b"".join(b"relative %d 100000\n" % place for place in range(11))
+        + b"open 1000000000\n",
+        10,
+        "line 25 (open): refusal 10: the W of 11 units add to 10999999999956, over 10,000,000,000,000",
+    ),
+    (
         FRAME + b"draw 3 0\nshare unit 13 10001\nopen 1000000000\n",
         11,
         "refusal 11: share 10001 of place 1 (unit 13), given in line 7, is over 10,000",
@@ -229,18 +237,18 @@ REFUSED = [
         "refusal 13: relative 0 of place 0 (unit 11), not set since the last call, is 0 for a unit that is present (and 2 further places)",
     ),
     (
-        OPENED + b"relative 0 10000\nrelative unit 13 240000\nrelative 2 10000\nquarter\n",
+        OPENED + b"relative 0 100000\nrelative unit 13 2400000\nrelative 2 100000\nquarter\n",
         13,
-        "line 14 (quarter): refusal 13: relative 240000 of place 1 (unit 13), given in line 12, is outside 2,500 to 40,000 (10,000 is no change)",
+        "line 14 (quarter): refusal 13: relative 2400000 of place 1 (unit 13), given in line 12, is outside 25,000 to 400,000 (100,000 is no change)",
     ),
     (
-        FRAME + b"draw 3 0\nshare unit 15 0\nrelative 0 10000\nrelative 1 10000\nrelative 2 10000\nopen 1000000000\n",
+        FRAME + b"draw 3 0\nshare unit 15 0\nrelative 0 100000\nrelative 1 100000\nrelative 2 100000\nopen 1000000000\n",
         13,
-        "line 11 (open): refusal 13: relative 10000 of place 2 (unit 15), given in line 10, is not 0 though the unit's share is 0",
+        "line 11 (open): refusal 13: relative 100000 of place 2 (unit 15), given in line 10, is not 0 though the unit's share is 0",
     ),
     (b"quarter\n" * 32_769, 15, "refusal 15: the stream of the whole job has 32,769 bytes, over 32,768"),
     (
-        FRAME + b"draw 3 0\nrelative 3 10000\n",
+        FRAME + b"draw 3 0\nrelative 3 100000\n",
         18,
         "line 7 (relative): refusal 18: place 3 of a panel of 3; the places are 0 to 2",
     ),
@@ -253,22 +261,22 @@ REFUSED = [
         "line 1025 (unit): refusal 20: unit 1024 is one more than the 1,024 that a job holds",
     ),
     (
-        b"unit 1 999999 0\ndraw 1 0\nrelative 0 10000\nopen 1000000000\n",
+        b"unit 1 999999 0\ndraw 1 0\nrelative 0 100000\nopen 1000000000\n",
         21,
         "line 4 (open): refusal 21: u of place 0 (unit 1) is 999999 at this open, below 1,000,000",
     ),
     (
-        b"unit 1 1000000 0\ndraw 1 0\nrelative 0 10000\nopen 1000000000\nrelative 0 9999\nclose\n",
+        b"unit 1 1000000 0\ndraw 1 0\nrelative 0 100000\nopen 1000000000\nrelative 0 99999\nclose\n",
         21,
-        "line 6 (close): refusal 21: v of place 0 (unit 1) is 999900 at this close, below 1,000,000",
+        "line 6 (close): refusal 21: v of place 0 (unit 1) is 999990 at this close, below 1,000,000",
     ),
     (
-        b"unit 1 1000000000000 0\ndraw 1 0\nrelative 0 40000\nopen 100000000\n" + b"relative 0 40000\nclose\n" * 3 + b"relative 0 40000\nclose\n",
+        b"unit 1 1000000000000 0\ndraw 1 0\nrelative 0 400000\nopen 100000000\nrelative 0 400000\nclose\n",
         22,
-        "line 10 (close): refusal 22: the v add to 256000000000000 at this close, over 100,000,000,000,000",
+        "line 6 (close): refusal 22: the v add to 16000000000000 at this close, over 10,000,000,000,000",
     ),
     (
-        b"unit 1 9000000 0\ndraw 1 0\nrelative 0 10000\nopen 9000000000\nrelative 0 11112\nquarter\n",
+        b"unit 1 9000000 0\ndraw 1 0\nrelative 0 100000\nopen 9000000000\nrelative 0 111120\nquarter\n",
         23,
         "line 6 (quarter): refusal 23: the figure would be 10000800000, outside 100,000,000 to 10,000,000,000",
     ),
@@ -289,20 +297,20 @@ def test_refusals_in_words(t):
         t.check(words in said, "the line, the number and what is to blame", (words, said))
         t.check(said.endswith(f"refusal {number} is: {REFUSALS[number][1]} (docs/REFUSALS.md)"), "the number's words", said)
     met = {number for _, number, _ in REFUSED}
-    t.check(met == set(range(1, 25)) - {6, 7, 8, 9, 10, 14, 16, 17}, "all of document 01 but what no line can cause", met)
+    t.check(met == set(range(1, 25)) - {6, 7, 8, 9, 14, 16, 17}, "all of document 01 but what no line can cause", met)
 
 
 def test_refused_jobs(t):
     """The command: status 1, standard output as the program has it, the words on standard error."""
     commands.built()
-    lines = OPENED + b"relative 0 10000\nrelative unit 13 240000\nrelative 2 10000\nquarter\n"
+    lines = OPENED + b"relative 0 100000\nrelative unit 13 2400000\nrelative 2 100000\nquarter\n"
     status, printed, said = run([RUN, "-"], text=lines)
     t.check(
         (status, printed) == (1, PRINTED[:43] + b"R 13 136\n"),
         "status 1, and R as the program prints it",
         (status, printed),
     )
-    words = "relative 240000 of place 1 (unit 13), given in line 12, is outside 2,500 to 40,000 (10,000 is no change)"
+    words = "relative 2400000 of place 1 (unit 13), given in line 12, is outside 25,000 to 400,000 (100,000 is no change)"
     wanted = f"run.sh: standard input: line 14 (quarter): refusal 13: {words}\n"
     t.check(
         said.startswith(wanted) and said.count("\n") == 2,
@@ -338,8 +346,8 @@ def test_blame_on_random_streams(t):
 def test_units_by_number(t):
     """A panel unit by its number is the same as by its place, across draws; one that is not there is refused with its line."""
     commands.built()
-    by_place = FRAME + b"draw 3 0\nshare 2 5000\nrelative 1 9000\ndraw 3 101000\nrelative 1 9000\nrelative 2 9100\n"
-    by_unit = FRAME + b"draw 3 0\nshare unit 15 5000\nrelative unit 13 9000\ndraw 3 101000\nrelative unit 12 9000\nrelative unit 13 9100\n"
+    by_place = FRAME + b"draw 3 0\nshare 2 5000\nrelative 1 90000\ndraw 3 101000\nrelative 1 90000\nrelative 2 91000\n"
+    by_unit = FRAME + b"draw 3 0\nshare unit 15 5000\nrelative unit 13 90000\ndraw 3 101000\nrelative unit 12 90000\nrelative unit 13 91000\n"
     made = [run([sys.executable, "examples/make_stream.py"], text=lines) for lines in (by_place, by_unit)]
     t.check(made[0][:2] == made[1][:2] == (0, job.stream_of(job.commands_of(by_place)[0])), "the same bytes", made)
     for lines, reason in (
@@ -365,9 +373,9 @@ def test_units_by_number(t):
     ):
         status, printed, said = run([RUN, "-"], text=lines)
         t.check((status, printed) == (2, b"") and reason in said, "refused with its line", (reason, status, printed, said))
-    last, said = told(FRAME + b"draw 9 0\nrelative unit 11 10000\n")
+    last, said = told(FRAME + b"draw 9 0\nrelative unit 11 100000\n")
     t.check(last == "R 5 85", "a refused draw comes before the units below it", (last, said))
-    status, made, said = run([sys.executable, "examples/make_stream.py"], text=FRAME + b"draw 9 0\nrelative unit 11 10000\n")
+    status, made, said = run([sys.executable, "examples/make_stream.py"], text=FRAME + b"draw 9 0\nrelative unit 11 100000\n")
     t.check((status, made) == (2, b"") and "line 6: this draw is refused" in said, "and no stream is made", (status, said))
 
 
@@ -380,18 +388,18 @@ ODD = [
         "warning: a carriage return stands without a line feed; it is taken as the end of a line",
     ),
     (
-        OPENED.replace(b"open", b"relative unit 13 9000\nopen"),
-        "warning: line 10: the relative of place 1 (unit 13) is set to 9000 again before a call uses it; 10000 of line 8 is lost",
+        OPENED.replace(b"open", b"relative unit 13 90000\nopen"),
+        "warning: line 10: the relative of place 1 (unit 13) is set to 90000 again before a call uses it; 100000 of line 8 is lost",
     ),
     (
         OPENED.replace(b"draw 3 0\n", b"draw 3 0\nshare 0 1000\nshare 0 9000\n"),
         "warning: line 8: the share of place 0 is set to 9000 again",
     ),
     (
-        OPENED + b"relative 0 10000\nrelative 1 10000\n",
+        OPENED + b"relative 0 100000\nrelative 1 100000\n",
         "warning: line 11 to line 12: no open, quarter or close uses these relatives",
     ),
-    (OPENED + b"relative 0 10000\ndraw 3 0\n", "warning: line 11: the draw that follows drops this relative"),
+    (OPENED + b"relative 0 100000\ndraw 3 0\n", "warning: line 11: the draw that follows drops this relative"),
     (OPENED + b"unit 16 1 1\n", "warning: line 11: no draw uses this unit"),
 ]
 
@@ -411,7 +419,7 @@ def test_odd_jobs(t):
         answer = run([RUN, "-"], text=lines)
         t.check(answer == (0, PRINTED, ""), "a byte-order mark, line ends of two kinds", answer)
     t.check(run([RUN, "-"], text=REFERENCE.replace(b"\n", b"\r"))[:2] == (0, PRINTED), "line ends of the third kind")
-    many = FRAME + b"draw 3 0\n" + b"relative 0 10000\n" * 30
+    many = FRAME + b"draw 3 0\n" + b"relative 0 100000\n" * 30
     said = run([RUN, "-"], text=many)[2]
     t.check(said.count("\n") == 11 and "and 20 further warnings" in said, "a flood is cut", said)
 

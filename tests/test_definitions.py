@@ -259,27 +259,27 @@ def rotation_suite(rng, count):
 def open_suite(rng, count):
     for _ in range(count):
         units = rng.randint(1, 4)
-        W = [rng.choice([10**6, 10**8, 400_000_000, 10**9 + 7, 4 * 10**13]) for _ in range(units)]
+        W = [rng.choice([10**6, 10**8, 400_000_000, 10**9 + 7, 4 * 10**12]) for _ in range(units)]
         g = [rng.choice([10_000, 10_000, 5_000, 9_999, 1, 0]) for _ in range(units)]
-        a = [rng.choice([10_000, 2_500, 40_000, 12_345]) if share else 0 for share in g]
+        a = [rng.choice([100_000, 25_000, 400_000, 123_457]) if share else 0 for share in g]
         start = faulty(rng, rng.choice([10**8, 10**9, 10**10]), 10**8 - 1, 10**10 + 1)
-        W = faulty(rng, W, W[:-1], [0] + W[1:], W[:-1] + [10**14 - sum(W[:-1])], W[:-1] + [10**14 + 1 - sum(W[:-1])])
+        W = faulty(rng, W, W[:-1], [0] + W[1:], W[:-1] + [10**13 - sum(W[:-1])], W[:-1] + [10**13 + 1 - sum(W[:-1])])
         g = faulty(rng, g, g[:-1], [10_001] + g[1:], [0] * units)
-        a = faulty(rng, a, a[:-1], [2_499] + a[1:], [40_001] + a[1:], [0] + a[1:], [1] + a[1:])
+        a = faulty(rng, a, a[:-1], [24_999] + a[1:], [400_001] + a[1:], [0] + a[1:], [1] + a[1:])
         yield from open_cases(W, g, a, start)
 
 
 def call_suite(rng, count):
     for _ in range(count):
         units = rng.randint(1, 4)
-        v = [rng.choice([0, 10**6, 10**6 + 1, 4 * 10**6, 4 * 10**6 - 1, 10**9, 2 * 10**13]) for _ in range(units)]
-        p = [rng.choice([10_000, 2_500, 40_000, 9_999, 12_345]) if weight else 0 for weight in v]
+        v = [rng.choice([0, 10**6, 10**6 + 1, 4 * 10**6, 4 * 10**6 - 1, 10**9, 2 * 10**12]) for _ in range(units)]
+        p = [rng.choice([100_000, 25_000, 400_000, 99_999, 123_457]) if weight else 0 for weight in v]
         beyond = [rng.randrange(50) for _ in range(rng.randint(0, 2))]
-        v = faulty(rng, v, [999_999] + v[1:], [0] * units, [10**14 - sum(v[1:])] + v[1:], [10**14 + 1 - sum(v[1:])] + v[1:], [1] + v[1:])
+        v = faulty(rng, v, [999_999] + v[1:], [0] * units, [10**13 - sum(v[1:])] + v[1:], [10**13 + 1 - sum(v[1:])] + v[1:], [1] + v[1:])
         index = faulty(rng, rng.choice([10**8, 10**9, 10**10, 4 * 10**8, 399_999_999]), 10**8 - 1, 10**10 + 1)
         closes = faulty(rng, rng.choice([0, 1, 39]), 40, 41)
         count_units = faulty(rng, units, 0, 101)
-        p = faulty(rng, p, p[:-1], p + [10_000], [2_499] + p[1:], [40_001] + p[1:], [0] + p[1:], [1] + p[1:])
+        p = faulty(rng, p, p[:-1], p + [100_000], [24_999] + p[1:], [400_001] + p[1:], [0] + p[1:], [1] + p[1:])
         yield from call_cases(chain.Record(count_units, v + beyond, index, closes), p)
 
 
@@ -288,7 +288,7 @@ def direct_suite(rng, count):
         units = rng.randint(1, 3)
         W = [rng.randrange(10**6, 10**12) for _ in range(units)]
         g = [10_000] + [rng.choice([0, 1, 10_000]) for _ in range(units - 1)]
-        a, p, *closes = [[rng.randrange(2_500, 40_001) if share else 0 for share in g] for _ in range(2 + rng.randint(0, 3))]
+        a, p, *closes = [[rng.randrange(25_000, 400_001) if share else 0 for share in g] for _ in range(2 + rng.randint(0, 3))]
         yield from direct_cases(W, g, a, rng.randrange(10**8, 10**10 + 1), closes, p)
 
 
@@ -297,15 +297,15 @@ def event_suite(rng, count):
     for _ in range(count):
         W = [rng.choice([10**6, 4 * 10**6, 10**9 + 7]) for _ in range(rng.randint(1, 3))]
         g = [10_000] + [rng.choice([0, 10_000]) for _ in W[1:]]
-        a = [10_000 if share else 0 for share in g]
+        a = [100_000 if share else 0 for share in g]
         calls = []
         for _ in range(rng.randint(0, 4)):
-            p = [rng.choice([9_999, 10_000, 12_345, 40_000]) if share else 0 for share in g]
-            calls.append((rng.choice(["quarter", "close"]), faulty(rng, p, p[:-1], [2_499] + p[1:], [2_500] + p[1:])))
+            p = [rng.choice([99_999, 100_000, 123_457, 400_000]) if share else 0 for share in g]
+            calls.append((rng.choice(["quarter", "close"]), faulty(rng, p, p[:-1], [24_999] + p[1:], [25_000] + p[1:])))
         yield from event_cases(W, g, a, rng.choice([10**8, 10**9, 4 * 10**9]), calls)
-    one = ([10**8], [10_000], [10_000], 10**9)
-    forty = [("close", [10_000])] * 40
-    for calls in ([], [("quarter", [12_000])], forty + [("close", [10_000]), ("quarter", [10_000]), ("quarter", [2_499])]):
+    one = ([10**8], [10_000], [100_000], 10**9)
+    forty = [("close", [100_000])] * 40
+    for calls in ([], [("quarter", [120_000])], forty + [("close", [100_000]), ("quarter", [100_000]), ("quarter", [24_999])]):
         yield from event_cases(*one, calls)
 
 
@@ -411,7 +411,7 @@ def some_commands(rng):
     if rng.random() < 0.3:
         commands.append(("share", rng.randrange(size), rng.choice([5_000, 10_000])))
     for call in ["open"] + [rng.choice(["quarter", "close"]) for _ in range(rng.randint(0, 2))]:
-        commands += [("relative", place, rng.choice([9_000, 10_000, 12_000])) for place in range(size)]
+        commands += [("relative", place, rng.choice([90_000, 100_000, 120_000])) for place in range(size)]
         commands.append((call, 10**9) if call == "open" else (call,))
     return commands
 
@@ -456,8 +456,8 @@ def limit_suite():
         for z in (99, 100, 101):
             yield from frame_refusal_cases(list(range(units)), [1] * units, [0] * units, z, 0)
     for units in (100, 101):
-        yield from open_cases([10**8] * units, [10_000] * units, [10_000] * units, 10**9)
-        yield from call_cases(chain.Record(units, [10**8] * 101, 10**9, 0), [10_000] * units)
+        yield from open_cases([10**8] * units, [10_000] * units, [100_000] * units, 10**9)
+        yield from call_cases(chain.Record(units, [10**8] * 101, 10**9, 0), [100_000] * units)
     for sectors in (64, 65):
         yield from total_cases([10**6] + [0] * (sectors - 1), [10**9] * sectors)
     panel = list(range(100))
@@ -471,9 +471,9 @@ def limit_suite():
 
 def edge_suite():
     """Places where one number more or less decides, which random cases seldom meet."""
-    for relative in (9_999, 10_000, 10_001):  # 22: the sum of the weights at 10^14
-        yield from open_cases([10**14], [10_000], [relative], 10**9)
-        yield from call_cases(chain.Record(1, [10**14], 10**9, 0), [relative])
+    for relative in (99_999, 100_000, 100_001):  # 22: the sum of the weights at 10^13
+        yield from open_cases([10**13], [10_000], [relative], 10**9)
+        yield from call_cases(chain.Record(1, [10**13], 10**9, 0), [relative])
     for turnovers in ([10**12 - 1, 1], [10**12, 1]):  # 3: the total turnover at 10^12
         yield from frame_refusal_cases([1, 2], turnovers, [0, 0], 1, 0)
     yield from take_all_cases([], 1, [])  # 1: no unit, before 5
@@ -487,13 +487,13 @@ def edge_suite():
     phoned = ([1, 2, 3, 4, 5, 6], [10, 30, 20, 30, 25, 15], [100_000, 50_000, 150_000, 20_000, 900_000, 950_000])
     yield from rotation_cases(*phoned, 1, 0, [1, 2, 3, 4], 1_000, [0] * 6)  # document 02's worked leavers
     drawn = [("unit", number, 5 * 10**6, number) for number in (1, 2, 3)] + [("draw", 2, 0)]
-    for command in (("relative", 1, 10_000), ("relative", 2, 10_000), ("share", 1, 10_000), ("share", 2, 10_000)):
+    for command in (("relative", 1, 100_000), ("relative", 2, 100_000), ("share", 1, 10_000), ("share", 2, 10_000)):
         yield from job_cases(drawn + [command, ("close",)])  # 18 at the panel's size
     yield from job_cases([("open", 10**9)])  # 19 before the open's own 9
     # an absent unit's relative stays 0: after a draw, an open, a quarter and a close
-    yield from job_cases(drawn + [("share", 0, 0)] + 2 * [("relative", 1, 10_000), ("open", 10**9)])
-    calls = [command for call in ("quarter", "close", "quarter") for command in (("relative", 1, 12_000), (call,))]
-    yield from job_cases(drawn + [("share", 0, 0), ("relative", 1, 10_000), ("open", 10**9)] + calls)
+    yield from job_cases(drawn + [("share", 0, 0)] + 2 * [("relative", 1, 100_000), ("open", 10**9)])
+    calls = [command for call in ("quarter", "close", "quarter") for command in (("relative", 1, 120_000), (call,))]
+    yield from job_cases(drawn + [("share", 0, 0), ("relative", 1, 100_000), ("open", 10**9)] + calls)
 
 
 def full_frame_cases():

@@ -31,25 +31,25 @@ def drawn_from(start):
 def expected():
     """What the examples print and what the job prints, reckoned independently."""
     panel, weights, lines, job = drawn_from(0)
-    record = chain.open_chain(weights, [10_000] * SIZE, [10_000] * SIZE, 10**9)
+    record = chain.open_chain(weights, [10_000] * SIZE, [100_000] * SIZE, 10**9)
     lines.append("opened at 1000000000")
-    for name, relatives in (("first", [10_200] * SIZE), ("second", [10_404] * SIZE), ("third", [10_500, 9_900, 11_500])):
+    for name, relatives in (("first", [102_000] * SIZE), ("second", [104_040] * SIZE), ("third", [105_000, 99_000, 115_000])):
         figure = chain.quarter(record, relatives)[1].F
         lines.append(f"{name} quarter: {figure}")
         job.append(f"Q {figure}")
-    record, figure = chain.close(record, [10_500, 9_800, 12_000])
+    record, figure = chain.close(record, [105_000, 98_000, 120_000])
     lines.append(f"close of the year: {figure.F}")
     job.append(f"C {figure.F}")
     turn, leavers = frame.rotate(NUMBERS, TURNOVERS, RANDOMS, SIZE, 0, panel, 500, [0] * SIZE)
     left = " ".join(str(unit) for unit in leavers[: turn.count])
     lines.append(f"rotation of half: step {turn.k}, new start {turn.new_start}, leavers {left}")
     _, weights, drawn, printed = drawn_from(turn.new_start)
-    record = chain.open_chain(weights, [10_000] * SIZE, [10_500, 10_300, 9_800], figure.F)
-    quarter = chain.quarter(record, [10_000, 10_100, 10_200])[1].F
+    record = chain.open_chain(weights, [10_000] * SIZE, [105_000, 103_000, 98_000], figure.F)
+    quarter = chain.quarter(record, [100_000, 101_000, 102_000])[1].F
     lines += [*drawn, f"opened at {figure.F}", f"first quarter: {quarter}"]
     job += [*printed, f"Q {quarter}"]
-    refused = chain.quarter(record, [2_499, 10_000, 10_000])[1].number
-    lines.append(f"a relative of 2,499: refusal {refused} (relatives)")
+    refused = chain.quarter(record, [24_999, 100_000, 100_000])[1].number
+    lines.append(f"a relative of 24,999: refusal {refused} (relatives)")
     lines.append(f"total of the year over two sectors: {chain.total([600_000, 400_000], [figure.F, 10**9]).total}")
     return "".join(line + "\n" for line in lines), "".join(line + "\n" for line in job)
 
@@ -76,14 +76,14 @@ def test_the_year_as_a_job(t):
 
 
 def test_the_mistake(t):
-    """10,200 twice gives the same figure twice, since both are measured against the opening."""
+    """102,000 twice gives the same figure twice, since both are measured against the opening."""
     commands.built()
     year = (TOP / "examples" / "year.txt").read_bytes()
-    status, printed, said = commands.run([TOP / "run.sh", "-"], text=year.replace(b" 10404\n", b" 10200\n"))
+    status, printed, said = commands.run([TOP / "run.sh", "-"], text=year.replace(b" 104040\n", b" 102000\n"))
     t.check((status, said) == (0, "") and printed.decode().split()[9:13] == ["Q", "1020000000"] * 2, "the same figure twice", printed)
     for file in ("README.md", "include/vougecress.h", "examples/make_stream.py", "tools/job.py"):
         text = " ".join((TOP / file).read_text().replace(",", "").split()).replace(" * ", " ")
-        t.check("quarter before" in text and "10404" in text and "same figure twice" in text, f"{file} says it", file)
+        t.check("quarter before" in text and "104040" in text and "same figure twice" in text, f"{file} says it", file)
 
 
 def test_every_call_of_the_example_is_looked_at(t):

@@ -19,7 +19,7 @@ from independent.register import BadLine, import_lists, line_number, units_of
 from independent.sheet import sheet
 from independent.writing import LISTS, read_all, write
 
-STREAM_REFUSALS = {1, 2, 3, 4, 5, 11, 12, 13, 15, 16, 17, 18, 19, 20, 21, 22, 23, 24}
+STREAM_REFUSALS = {1, 2, 3, 4, 5, 10, 11, 12, 13, 15, 16, 17, 18, 19, 20, 21, 22, 23, 24}
 
 
 # Each entry on a case: its answer, and whether the buffers or the record it hands
@@ -387,7 +387,7 @@ def test_open_laws(t):
         t.check(len(record.weights) == 100 and not any(record.weights[len(W) :]), "0 beyond the units", case)
         for i in range(len(W)):
             u = math.floor(Fraction(W[i] * g[i], 10_000))
-            v = math.floor(Fraction(u * a[i], 10_000)) if g[i] else 0
+            v = math.floor(Fraction(u * a[i], 100_000)) if g[i] else 0
             t.check(record.weights[i] == v, f"weight {i}", case)
 
 
@@ -397,14 +397,14 @@ def law_of_calls(t, case):
     held, said = quarter(record, p)
     after, answer = close(record, p)
     V = sum(record.weights[: len(p)])
-    L = math.floor(Fraction(sum(v * r for v, r in zip(record.weights, p)) * 10_000, V))
+    L = math.floor(Fraction(sum(v * r for v, r in zip(record.weights, p)) * 1_000, V))
     F = math.floor(Fraction(record.index * L, 100_000_000))
     t.check(said == Figure(F) and held == record, "a quarter answers F and leaves the record", case)
     t.check(answer == Figure(F), "a close answers the same F", case)
     t.check((after.units, after.index, after.closes) == (len(p), F, record.closes + 1), "head", case)
     t.check(after.weights[len(p) :] == record.weights[len(p) :], "places beyond the units stay", case)
     for i, relative in enumerate(p):
-        v = math.floor(record.weights[i] * Fraction(relative, 10_000))
+        v = math.floor(record.weights[i] * Fraction(relative, 100_000))
         t.check(after.weights[i] == v, f"weight {i} after a close", case)
 
 
@@ -452,10 +452,10 @@ def test_demand_3(t):
     t.check(figures > 20_000, "many figures", figures)
 
 
-# Both floors of the first weight lose nearly a millionth, and it moves apart from
-# the second: the distance is over 11 m D / 10,000,000 with m = 1.
-SHARP = ([1_010_001, 4_040_000], [9_999, 10_000], [10_001, 10_000], 10**9)
-SHARP_CALL = [40_000, 2_500]
+# Both floors of the second weight lose nearly a millionth, and it moves apart from
+# the first: the distance is over 11 m D / 10,000,000 with m = 1.
+SHARP = ([4_000_000, 7_502_003], [10_000, 1_333], [100_000, 99_999], 4 * 10**8)
+SHARP_CALL = [25_000, 400_000]
 
 
 def test_bound(t):
@@ -473,30 +473,46 @@ def test_bound(t):
     t.check(not within_bound(1_063_593_000, 1_063_800_000, 3), "old weights kept fall out of the bound")
 
 
+def test_hostile_chains(t):
+    """Chains made to lose use over four fifths of the bound: with 9 in place of 11 it would not hold."""
+    ends = {}
+    for case in generate.chain_cases(t.seed, 0):
+        for answer, D, allowed in follow(t, case):
+            if D is not None:
+                used = 10_000_000 * abs(answer.F - D) / (11 * allowed * D)
+                t.check(used <= 1, f"F = {answer.F}, D = {D}, allowed = {allowed}", case)
+                ends[case.what] = (answer.F, allowed, used)
+    below, above = ends["F below D, 36 closes"], ends["F above D, 35 closes"]
+    t.check(below[:2] == (1_000_039_184, 41) and above[:2] == (6_810_192_920, 41), "the figures of both at m = 40", (below, above))
+    for F, allowed, used in (below, above):
+        t.check(used > Fraction(83, 100), "over four fifths of the bound are used", float(used))
+        t.check(used * 11 > 9, "a factor of 9 would be too small", float(used))
+
+
 def test_direct(t):
     """The product of all moves, and no rounding anywhere."""
-    direct = Direct([10**9, 10**9, 5], [10_000, 3_333, 0], [10_001, 2_500, 0], 10**9)
-    t.check(direct.e == [1_000_100_000, Fraction(10**9 * 3_333 * 2_500, 10**8), 0], "opening e", direct.e)
+    direct = Direct([10**9, 10**9, 5], [10_000, 3_333, 0], [100_001, 25_000, 0], 10**9)
+    t.check(direct.e == [1_000_010_000, Fraction(10**9 * 3_333 * 25_000, 10**9), 0], "opening e", direct.e)
     for _ in range(3):
-        direct.closed([10_001, 9_999, 0])
-    first = Fraction(1_000_100_000) * Fraction(10_001, 10_000) ** 3
+        direct.closed([100_001, 99_999, 0])
+    first = Fraction(1_000_010_000) * Fraction(100_001, 100_000) ** 3
     t.check(direct.e[0] == first and direct.e[2] == 0, "e after three closes", direct.e)
-    opening = 1_000_100_000 + Fraction(10**9 * 3_333 * 2_500, 10**8)
-    D = direct.D([10_000, 10_000, 0])
+    opening = 1_000_010_000 + Fraction(10**9 * 3_333 * 25_000, 10**9)
+    D = direct.D([100_000, 100_000, 0])
     t.check(D == 10**9 * sum(direct.e) / opening, "E stays the opening sum", D)
     t.check((direct.m, direct.allowed()) == (4, 5), "m and m + 1", (direct.m, direct.allowed()))
 
 
 def test_forty_closes(t):
-    record = open_chain([10**9], [10_000], [10_000], 10**9)
+    record = open_chain([10**9], [10_000], [100_000], 10**9)
     for number in range(40):
-        record, answer = close(record, [10_000])
+        record, answer = close(record, [100_000])
         t.check(answer == Figure(10**9), f"close {number + 1} is accepted", answer)
     for call in (quarter, close):
-        t.check(call(record, [10_000])[1] == Refused(24), "24 after forty", record)
-        t.check(call(record, [2_499])[1] == Refused(13), "13 before 24", record)
+        t.check(call(record, [100_000])[1] == Refused(24), "24 after forty", record)
+        t.check(call(record, [24_999])[1] == Refused(13), "13 before 24", record)
         t.check(call(record, [])[1] == Refused(9), "9 before 24", record)
-    t.check(close(record, [40_000])[1] == Refused(24), "four times is in range", record)
+    t.check(close(record, [400_000])[1] == Refused(24), "four times is in range", record)
 
 
 def test_total_laws(t):
@@ -648,7 +664,7 @@ def test_what_a_command_leaves(t):
     t.check((job.panel, job.shares, job.relatives) == ([11, 13, 15], [10_000] * 3, [0] * 3), "draw", job)
     t.check(job.numbers == [11, 12, 13, 14, 15] and job.chain is None, "the frame stays", job)
     job = job_after(listing[:109])
-    t.check(job.relatives == [10_000] * 3, "pending relatives", job)
+    t.check(job.relatives == [100_000] * 3, "pending relatives", job)
     job = job_after(listing[:118])
     t.check(job.relatives == [0] * 3 and job.chain.index == 10**9, "an open sets relatives to 0", job)
     waiting = job_after(listing[:118] + b"\x03\x01\x00\x07")

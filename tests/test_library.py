@@ -64,8 +64,8 @@ def test_reference_cases(t):
     t.check(panel_of(NUMBERS, TURNOVERS, RANDOMS, 3, 101_000)[1] == [11, 12, 13], "K6: the new panel")
     t.check(panel_of([1, 2, 3], [10] * 3, [500_000] * 3, 1, 0)[1] == [1], "K9")
     record = Record(1, [10**6] + [0] * 99, 10**9, 0)
-    t.check(library.quarter(record, [2_499])[1] == Refused(13), "K10: 2,499 is refused by 13")
-    t.check(library.quarter(record, [2_500])[1] == Figure(250_000_000), "K10: 2,500 is taken")
+    t.check(library.quarter(record, [24_999])[1] == Refused(13), "K10: 24,999 is refused by 13")
+    t.check(library.quarter(record, [25_000])[1] == Figure(250_000_000), "K10: 25,000 is taken")
     t.check(library.total([600_000, 400_000], [1_062_000_000, 10**9]) == chain.Total(1_037_200_000), "K11")
 
 
@@ -155,13 +155,13 @@ def test_total(t):
 def test_record_list(t):
     """A record that is shorter than 103 places is none: 19, and 6 where open is to write it; one place more stays."""
     full = [1, 10**9, 0, 10**6] + [0] * 99
-    answer, (after, _) = library.call("vougecress_close", full[:-1], [10_000])
+    answer, (after, _) = library.call("vougecress_close", full[:-1], [100_000])
     t.check((answer.refusal, answer.figure, after) == (19, 0, full[:-1]), "a record one place short is refused by 19")
-    answer, _ = library.call("vougecress_quarter", full[:-1], [10_000])
+    answer, _ = library.call("vougecress_quarter", full[:-1], [100_000])
     t.check((answer.refusal, answer.figure) == (19, 0), "a record one place short is refused by 19 at a quarter")
-    answer, (after, _) = library.call("vougecress_close", full + [5], [20_000])
+    answer, (after, _) = library.call("vougecress_close", full + [5], [200_000])
     t.check(answer.figure == 2 * 10**9 and after[-1] == 5, "a place beyond the record stays")
-    opening = ([10**6], [10_000], [10_000], 10**9)
+    opening = ([10**6], [10_000], [100_000], 10**9)
     for room, number in ((102, 6), (103, 0), (104, 0)):
         answer, (*_, after) = library.call("vougecress_open", *opening, [8] * room)
         t.check(answer == number, f"open with a record of {room} places")

@@ -207,7 +207,7 @@ class Chain(Example):
     def reckoned(self, before, p, F):
         v = before.weights[: before.units]
         V, N = sum(v), sum(v[i] * p[i] for i in range(len(p)))
-        L = N * 10_000 // V
+        L = N * 1_000 // V
         self.t.check(before.index * L // 10**8 == F, f"{self.where}: F is reckoned from L", (before, p, F))
         return facts_of(V=V, N=N, L=L)
 

@@ -22,7 +22,7 @@ def test_listings(t):
     year = (TOP / "examples" / "year.txt").read_text()
     t.check(f"```\n{year}```\n" in TEXT, "the job of the year")
     with tempfile.TemporaryDirectory() as folder:
-        (Path(folder) / "slip.txt").write_text(year.replace("unit 13  9900", "unit 13 99000"))
+        (Path(folder) / "slip.txt").write_text(year.replace("unit 13  99000", "unit 13 990000"))
         status, printed, said = run([TOP / "run.sh", "slip.txt"], cwd=folder)
     t.check(status == 1 and f"```\n{said}```\n" in TEXT, "what is said of a slip", said)
     t.check(f"`{printed.decode().splitlines()[-1]}`" in PROSE, "and its last line", printed)

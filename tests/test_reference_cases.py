@@ -20,9 +20,9 @@ RANDOMS = [300_000, 500_000, 200_000, 900_000, 100_000]
 PRINTED = b"P 11 140000000\nP 13 30000000\nP 15 30000000\nC 1062000000\nQ 1063799994\n"
 
 # The relatives of the listing: at the open, at the close, at the quarter.
-OPENING = ([140_000_000, 30_000_000, 30_000_000], [10_000] * 3, [10_000] * 3, 1_000_000_000)
-CLOSING = [10_500, 9_800, 12_000]
-QUARTERLY = [10_000, 10_000, 10_100]
+OPENING = ([140_000_000, 30_000_000, 30_000_000], [10_000] * 3, [100_000] * 3, 1_000_000_000)
+CLOSING = [105_000, 98_000, 120_000]
+QUARTERLY = [100_000, 100_000, 101_000]
 
 
 def panel(numbers, turnovers, randoms, z):
@@ -103,13 +103,13 @@ def test_k9(t):
 
 
 def k10():
-    """A relative of 2,499 and one of 2,500, at the open and at a quarter."""
-    record = open_chain([10**9], [10_000], [10_000], 10**9)
+    """A relative of 24,999 and one of 25,000, at the open and at a quarter."""
+    record = open_chain([10**9], [10_000], [100_000], 10**9)
     return [
-        open_chain([10**9], [10_000], [2_499], 10**9) == Refused(13),
-        open_chain([10**9], [10_000], [2_500], 10**9) != Refused(13),
-        quarter(record, [2_499])[1] == Refused(13),
-        quarter(record, [2_500])[1] == Figure(250_000_000),
+        open_chain([10**9], [10_000], [24_999], 10**9) == Refused(13),
+        open_chain([10**9], [10_000], [25_000], 10**9) != Refused(13),
+        quarter(record, [24_999])[1] == Refused(13),
+        quarter(record, [25_000])[1] == Figure(250_000_000),
     ]
 
 
@@ -144,8 +144,8 @@ def test_named_mistakes(t):
         t.check(k2_panel() == [11, 13, 15], "r over probability takes 15 in K2", k2_panel())
     with mistaken(frame, "order", lambda its_key, number: (its_key, -number)):
         t.check(k9_panel() == [3], "ties by higher number break K9", k9_panel())
-    with mistaken(chain, "LOWEST_RELATIVE", 2_499):
-        t.check(k10() == [False, True, False, True], "2,499 taken breaks K10", k10())
+    with mistaken(chain, "LOWEST_RELATIVE", 24_999):
+        t.check(k10() == [False, True, False, True], "24,999 taken breaks K10", k10())
 
 
 def test_mistakes_are_undone(t):

@@ -164,6 +164,9 @@ class History:
             return f"size {size} is over {MOST_PANEL}"
         return f"size {size} is over the {len(self.units)} units given"
 
+    def blame_10(self, command):
+        return f"the W of {len(self.weights)} units add to {sum(self.weights)}, over {MOST_WEIGHT:,}"
+
     def blame_11(self, command):
         for place, share in enumerate(self.all_shares()):
             if share > SHARE_SCALE:

@@ -3,7 +3,7 @@
     unit NUMBER TURNOVER RANDOM     a unit of the frame: number, turnover in euros, permanent random number
     draw SIZE START                 draw a panel; its units stand at places 0, 1, 2, .. by rising unit number
     share PLACE SHARE               a unit's share of the domain, in ten-thousandths
-    relative PLACE RELATIVE         a unit's price relative, in ten-thousandths (10000 is no change)
+    relative PLACE RELATIVE         a unit's price relative, in hundred-thousandths (100000 is no change)
     open START_INDEX                open a chain; an index of 100 is 1000000000
     quarter                         the figure of a quarter
     close                           the figure of a year's close, which the chain goes on from
@@ -11,7 +11,7 @@
 A panel unit may be named by its number: share unit NUMBER SHARE, relative unit NUMBER RELATIVE.
 Before an open a relative leads from the reference year to the opening. After it, it is measured
 against the opening, or against the last accepted close, and never against the quarter before:
-2 percent, and 2 percent more in the next quarter, are 10200 and 10404; 10200 twice gives the same
+2 percent, and 2 percent more in the next quarter, are 102000 and 104040; 102000 twice gives the same
 figure twice.
 Empty lines and what follows a # are left out.
 """

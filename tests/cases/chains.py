@@ -21,12 +21,12 @@ from . import (
 def an_opening(rng, units=None):
     """Arguments of an acceptable open: the last unit absent, the first two present."""
     units = units or rng.choice([3, 4, 7, 24, 100])
-    shares = [rng.choice([10_000, 10_000, rng.randrange(1, 10_001), 0]) for _ in range(units)]
-    shares[0], shares[1], shares[-1] = 10_000, rng.randrange(1, 10_001), 0
+    shares = [rng.choice([10_000, 10_000, rng.randrange(10, 10_001), 0]) for _ in range(units)]
+    shares[0], shares[1], shares[-1] = 10_000, rng.randrange(10, 10_001), 0
     return {
-        "W": [rng.randrange(10**11, 10**12 // 4) for _ in range(units)],
+        "W": [rng.randrange(10**10, 10**11 // 4) for _ in range(units)],
         "g": shares,
-        "a": [rng.choice([2_500, 10_000, 40_000, rng.randrange(2_500, 40_001)]) if g else 0 for g in shares],
+        "a": [rng.choice([25_000, 100_000, 400_000, rng.randrange(25_000, 400_001)]) if g else 0 for g in shares],
         "start": rng.choice([10**8, 10**9, 10**10, rng.randrange(10**8, 10**10)]),
     }
 
@@ -49,7 +49,7 @@ def all_absent(rng, data):
 
 def hundred_and_one(rng, data):
     """101 units in each list, each good."""
-    data.update(W=[10**9] * 101, g=[10_000] * 101, a=[10_000] * 101)
+    data.update(W=[10**9] * 101, g=[10_000] * 101, a=[100_000] * 101)
 
 
 def light(W, g, a):
@@ -63,8 +63,8 @@ def light(W, g, a):
 
 def weights_over(rng, data):
     """W within 10's limit, the sum of v over 22's by the other units' share of it."""
-    data["W"][0] = 5 * 10**13
-    data["a"][0] = 20_000
+    data["W"][0] = 5 * 10**12
+    data["a"][0] = 200_000
 
 
 def weights_wrap(rng, data):
@@ -86,7 +86,7 @@ OPEN_FAULTS = {
         "W of 0, absent": set_last("W", 0),
         "W of 2^64 - 1": set_last("W", U64),
         "W that wrap": weights_wrap,
-        "sum 10^14 + 1": lambda rng, data: data["W"].__setitem__(-1, 10**14 + 1 - sum(data["W"][:-1])),
+        "sum 10^13 + 1": lambda rng, data: data["W"].__setitem__(-1, 10**13 + 1 - sum(data["W"][:-1])),
     },
     11: {
         "a share of 10,001": set_first("g", 10_001),
@@ -100,34 +100,38 @@ OPEN_FAULTS = {
         "start 2^64 - 1": put("start", U64),
     },
     13: {
-        "relative 2,499": set_first("a", 2_499),
-        "relative 40,001": set_first("a", 40_001),
+        "relative 24,999": set_first("a", 24_999),
+        "relative 400,001": set_first("a", 400_001),
+        "a relative in ten-thousandths": set_first("a", 10_000),
         "relative 2^32 - 1": set_first("a", U32),
         "relative 0, present": set_first("a", 0),
         "relative 1, absent": set_last("a", 1),
-        "relative 10,000, absent": set_last("a", 10_000),
+        "relative 100,000, absent": set_last("a", 100_000),
     },
     21: {
-        "W of 1": light(1, 10_000, 10_000),
-        "u of 999,999 alone": light(999_999, 10_000, 40_000),
-        "v of 999,999 alone": light(1_999_999, 10_000, 5_000),
-        "u light by its share": light(10**10 - 1, 1, 40_000),
-        "v light by its share": light(10**10, 1, 9_999),
+        "W of 1": light(1, 10_000, 100_000),
+        "u of 999,999 alone": light(999_999, 10_000, 400_000),
+        "v of 999,999 alone": light(1_999_999, 10_000, 50_000),
+        "u light by its share": light(10**10 - 1, 1, 400_000),
+        "v light by its share": light(10**10, 1, 99_999),
     },
-    22: {"sum of v over 10^14": weights_over},
+    22: {"sum of v over 10^13": weights_over},
 }
 
 
 def open_limits(rng):
     """Both sides of each limit of the open."""
-    base = {"W": [10**9] * 3, "g": [10_000, 5_000, 0], "a": [10_000, 10_000, 0], "start": 10**9}
-    hundred = changed(base, W=[10**9] * 100, g=[10_000] * 100, a=[10_000] * 100)
+    base = {"W": [10**9] * 3, "g": [10_000, 5_000, 0], "a": [100_000, 100_000, 0], "start": 10**9}
+    hundred = changed(base, W=[10**9] * 100, g=[10_000] * 100, a=[100_000] * 100)
     more = changed(base)
     hundred_and_one(rng, more)
-    one = changed(base, W=[10**9], g=[10_000], a=[10_000])
-    alone = changed(base, g=[1, 0, 0], a=[10_000, 0, 0], W=[10**10, 1, 1])
-    full_up = changed(base, W=[10**9, 10**9, 10**14 - 2 * 10**9])
-    tight = changed(base, W=[(10**14 - 10**6) // 2, 10**6, 1], g=[10_000, 10_000, 0], a=[20_000, 10_000, 0])
+    one = changed(base, W=[10**9], g=[10_000], a=[100_000])
+    alone = changed(base, g=[1, 0, 0], a=[100_000, 0, 0], W=[10**10, 1, 1])
+    full_up = changed(base, W=[10**9, 10**9, 10**13 - 2 * 10**9])
+    tight = changed(base, W=[(10**13 - 10**6) // 2, 10**6, 1], g=[10_000, 10_000, 0], a=[200_000, 100_000, 0])
+
+    two_floors = changed(base, W=[1_199_126], g=[9_189], a=[108_387])  # v is 1,194,290; one floor over 10^9 gives 1,194,291
+    heavy = changed(base, W=[10**13], g=[10_000], a=[100_000])
 
     def second(**changes):
         return changed(base, **{name: replaced(base[name], 1, value) for name, value in changes.items()})
@@ -139,18 +143,21 @@ def open_limits(rng):
         ("units 1", (0, one), (9, changed(base, W=[], g=[], a=[]))),
         ("units 100", (0, hundred), (9, more)),
         ("W of 1, absent", (0, third(W=1)), (10, third(W=0))),
-        ("sum of W 10^14", (0, full_up), (10, changed(full_up, W=replaced(full_up["W"], 2, 10**14 - 2 * 10**9 + 1)))),
+        ("sum of W 10^13", (0, full_up), (10, changed(full_up, W=replaced(full_up["W"], 2, 10**13 - 2 * 10**9 + 1)))),
         ("share 10,000", (0, second(g=10_000)), (11, second(g=10_001))),
         ("one unit present", (0, alone), (11, changed(alone, g=[0] * 3, a=[0] * 3))),
         ("start 10^8", (0, changed(base, start=10**8)), (12, changed(base, start=10**8 - 1))),
         ("start 10^10", (0, changed(base, start=10**10)), (12, changed(base, start=10**10 + 1))),
-        ("relative 2,500", (0, second(a=2_500)), (13, second(a=2_499))),
-        ("relative 40,000", (0, second(a=40_000)), (13, second(a=40_001))),
+        ("relative 25,000", (0, second(a=25_000)), (13, second(a=24_999))),
+        ("relative 400,000", (0, second(a=400_000)), (13, second(a=400_001))),
         ("absent 0", (0, third(a=0)), (13, third(a=1))),
-        ("absent at 2,500", (0, third(a=0)), (13, third(a=2_500))),
-        ("u of 1,000,000", (0, second(W=2_000_000, a=20_000)), (21, second(W=1_999_999, a=20_000))),
-        ("v of 1,000,000", (0, second(W=8_000_000, a=2_500)), (21, second(W=7_999_998, a=2_500))),
-        ("sum of v 10^14", (0, tight), (22, changed(tight, W=replaced(tight["W"], 1, 10**6 + 1)))),
+        ("absent at 25,000", (0, third(a=0)), (13, third(a=25_000))),
+        ("u of 1,000,000", (0, second(W=2_000_000, a=200_000)), (21, second(W=1_999_999, a=200_000))),
+        ("v of 1,000,000", (0, second(W=8_000_000, a=25_000)), (21, second(W=7_999_998, a=25_000))),
+        ("two floors", (0, two_floors), (13, changed(two_floors, a=[10_838]))),
+        ("one W of 10^13", (0, heavy), (10, changed(heavy, W=[10**13 + 1]))),
+        ("one v of 10^13", (0, heavy), (22, changed(heavy, a=[100_001]))),
+        ("sum of v 10^13", (0, tight), (22, changed(tight, W=replaced(tight["W"], 1, 10**6 + 1)))),
     ]
 
 
@@ -169,14 +176,14 @@ def open_cases(rng, count):
 def a_call(rng):
     """An acceptable record and relatives: first two units present, last absent, junk beyond."""
     units = rng.choice([3, 4, 9, 30, 99, 100])
-    weights = [rng.choice([0, rng.randrange(10**7, 10**11)]) for _ in range(units)]
+    weights = [rng.choice([0, rng.randrange(10**7, 4 * 10**10)]) for _ in range(units)]
     weights[0], weights[1], weights[-1] = 10**9, 10**8, 0
     return {
         "units": units,
         "weights": weights + junk(rng, 100 - units, U64),
         "index": rng.randrange(4 * 10**8, 10**9),
         "closes": rng.choice([0, 1, 39, rng.randrange(40)]),
-        "p": [rng.randrange(5_000, 20_001) if weight else 0 for weight in weights],
+        "p": [rng.randrange(50_000, 200_001) if weight else 0 for weight in weights],
     }
 
 
@@ -229,9 +236,9 @@ def second_unit(weight, relative):
 
 
 def close_swells(rng, data):
-    """The new weights add to more than 10^14, the old ones do not."""
-    data["weights"][0] = 5 * 10**13
-    data["p"][0] = 20_001
+    """The new weights add to more than 10^13, the old ones do not."""
+    data["weights"][0] = 5 * 10**12
+    data["p"][0] = 200_001
     data["index"] = 10**9
 
 
@@ -248,7 +255,7 @@ RECORD_FAULTS = {
     "a weight of 1": set_first("weights", 1),
     "a weight of 999,999": set_first("weights", 999_999),
     "no weights": no_weights,
-    "weights add to 10^14 + 1": sum_of_weights(10**14 + 1),
+    "weights add to 10^13 + 1": sum_of_weights(10**13 + 1),
     "weights that wrap": record_wraps,
 }
 
@@ -258,31 +265,32 @@ QUARTER_FAULTS = {
         "no relatives": put("p", []),
         "a relative missing": drop_last("p"),
         "a relative more": lambda rng, data: data["p"].append(0),
-        "101 relatives": put("p", [10_000] * 101),
+        "101 relatives": put("p", [100_000] * 101),
     },
     13: {
-        "relative 2,499": set_first("p", 2_499),
-        "relative 40,001": set_first("p", 40_001),
+        "relative 24,999": set_first("p", 24_999),
+        "relative 400,001": set_first("p", 400_001),
+        "a relative in ten-thousandths": set_first("p", 10_000),
         "relative 2^32 - 1": set_first("p", U32),
         "relative 0, present": set_first("p", 0),
         "relative 1, absent": set_last("p", 1),
-        "relative 10,000, absent": set_last("p", 10_000),
+        "relative 100,000, absent": set_last("p", 100_000),
     },
     23: {
-        "F over 10^10": index_leaves(10**10, 10_001),
-        "F far over": index_leaves(10**10, 40_000),
-        "F below 10^8": index_leaves(10**8, 9_999),
-        "F far below": index_leaves(10**8, 2_500),
+        "F over 10^10": index_leaves(10**10, 100_001),
+        "F far over": index_leaves(10**10, 400_000),
+        "F below 10^8": index_leaves(10**8, 99_999),
+        "F far below": index_leaves(10**8, 25_000),
     },
     24: {"forty closes": put("closes", 40)},
 }
 
 CLOSING_FAULTS = {
     21: {
-        "new weight 999,999": second_unit(3_999_999, 2_500),
-        "new weight 999,900": second_unit(1_000_000, 9_999),
+        "new weight 999,999": second_unit(3_999_999, 25_000),
+        "new weight 999,990": second_unit(1_000_000, 99_999),
     },
-    22: {"new weights over 10^14": close_swells},
+    22: {"new weights over 10^13": close_swells},
 }
 
 CLOSE_FAULTS = {
@@ -293,7 +301,7 @@ CLOSE_FAULTS = {
 def a_small_call(rng):
     """The call that the limits start from: weights 10^9, 10^8 and absent; junk beyond."""
     weights = [10**9, 10**8, 0] + junk(rng, 97, U64)
-    return {"units": 3, "weights": weights, "index": 10**9, "closes": 3, "p": [10_000, 10_000, 0]}
+    return {"units": 3, "weights": weights, "index": 10**9, "closes": 3, "p": [100_000, 100_000, 0]}
 
 
 def weighing(data, weights, p, **changes):
@@ -306,20 +314,20 @@ def weighing(data, weights, p, **changes):
 def record_limits(rng):
     """Both sides of each limit of 19. Inside forty closes 24 is due, beyond them 19."""
     base = a_small_call(rng)
-    hundred = weighing(base, [10**7] * 100, [10_000] * 100)
-    full_up = [10**14 - 10**8, 10**8, 0]
+    hundred = weighing(base, [10**7] * 100, [100_000] * 100)
+    full_up = [10**13 - 10**8, 10**8, 0]
     return [
-        ("length 1", (0, weighing(base, [10**7], [10_000])), (19, changed(base, units=0))),
+        ("length 1", (0, weighing(base, [10**7], [100_000])), (19, changed(base, units=0))),
         ("length 100", (0, hundred), (19, changed(hundred, units=101))),
         ("39 and 40 closes", (0, changed(base, closes=39)), (24, changed(base, closes=40))),
         ("40 and 41 closes", (24, changed(base, closes=40)), (19, changed(base, closes=41))),
         ("index 10^8", (0, changed(base, index=10**8)), (19, changed(base, index=10**8 - 1))),
         ("index 10^10", (0, changed(base, index=10**10)), (19, changed(base, index=10**10 + 1))),
-        ("v of 1,000,000", (0, weighing(base, [10**6], [10_000])), (19, weighing(base, [999_999], [10_000]))),
-        ("v of 0", (0, weighing(base, [10**7, 0], [10_000, 0])), (19, weighing(base, [10**7, 1], [10_000, 10_000]))),
-        ("one present", (0, weighing(base, [0, 10**6], [0, 10_000])), (19, weighing(base, [0, 0], [0, 0]))),
+        ("v of 1,000,000", (0, weighing(base, [10**6], [100_000])), (19, weighing(base, [999_999], [100_000]))),
+        ("v of 0", (0, weighing(base, [10**7, 0], [100_000, 0])), (19, weighing(base, [10**7, 1], [100_000, 100_000]))),
+        ("one present", (0, weighing(base, [0, 10**6], [0, 100_000])), (19, weighing(base, [0, 0], [0, 0]))),
         (
-            "v add to 10^14",
+            "v add to 10^13",
             (0, weighing(base, full_up, base["p"])),
             (19, weighing(base, [full_up[0] + 1, 10**8, 0], base["p"])),
         ),
@@ -330,20 +338,22 @@ def call_limits(rng):
     """Both sides of each limit of 9, 13 and 23, quarter and close alike."""
     base = a_small_call(rng)
     return [
-        ("relatives as units", (0, base), (9, changed(base, p=[10_000, 10_000]))),
-        ("no relative more", (0, base), (9, changed(base, p=[10_000, 10_000, 0, 0]))),
-        ("relative 2,500", (0, changed(base, p=[10_000, 2_500, 0])), (13, changed(base, p=[10_000, 2_499, 0]))),
-        ("relative 40,000", (0, changed(base, p=[10_000, 40_000, 0])), (13, changed(base, p=[10_000, 40_001, 0]))),
-        ("absent 0", (0, base), (13, changed(base, p=[10_000, 10_000, 1]))),
+        ("relatives as units", (0, base), (9, changed(base, p=[100_000, 100_000]))),
+        ("no relative more", (0, base), (9, changed(base, p=[100_000, 100_000, 0, 0]))),
+        ("relative 25,000", (0, changed(base, p=[100_000, 25_000, 0])), (13, changed(base, p=[100_000, 24_999, 0]))),
+        ("relative 400,000", (0, changed(base, p=[100_000, 400_000, 0])), (13, changed(base, p=[100_000, 400_001, 0]))),
+        ("absent 0", (0, base), (13, changed(base, p=[100_000, 100_000, 1]))),
+        # L floored before × 1,000 would lose three digits
+        ("three digits of L", (0, weighing(base, [1_000_000, 2_000_000], [100_001, 100_000])), (13, weighing(base, [10**7], [10_000]))),
         (
             "F of 10^10",
             (0, changed(base, index=10**10)),
-            (23, changed(base, index=9_900_990_100, p=[10_100, 10_100, 0])),
+            (23, changed(base, index=9_900_990_100, p=[101_000, 101_000, 0])),
         ),
         (
             "F of 10^8",
             (0, changed(base, index=10**8)),
-            (23, changed(base, index=101_010_100, p=[9_900, 9_900, 0])),
+            (23, changed(base, index=101_010_100, p=[99_000, 99_000, 0])),
         ),
     ]
 
@@ -351,22 +361,22 @@ def call_limits(rng):
 def closing_limits(rng):
     """Both sides of 21 and 22 at a close."""
     base = a_small_call(rng)
-    half = (10**14 - 10**6) // 2
+    half = (10**13 - 10**6) // 2
     return [
         (
             "new v of 1,000,000",
-            (0, weighing(base, [10**9, 4_000_000], [10_000, 2_500])),
-            (21, weighing(base, [10**9, 3_999_999], [10_000, 2_500])),
+            (0, weighing(base, [10**9, 4_000_000], [100_000, 25_000])),
+            (21, weighing(base, [10**9, 3_999_999], [100_000, 25_000])),
         ),
         (
-            "new v add to 10^14",
-            (0, weighing(base, [half, 10**6], [20_000, 10_000])),
-            (22, weighing(base, [half, 10**6 + 1], [20_000, 10_000])),
+            "new v add to 10^13",
+            (0, weighing(base, [half, 10**6], [200_000, 100_000])),
+            (22, weighing(base, [half, 10**6 + 1], [200_000, 100_000])),
         ),
         (
             "21 before 24",
-            (24, weighing(base, [10**9, 4_000_000], [10_000, 2_500], closes=40)),
-            (21, weighing(base, [10**9, 3_999_999], [10_000, 2_500], closes=40)),
+            (24, weighing(base, [10**9, 4_000_000], [100_000, 25_000], closes=40)),
+            (21, weighing(base, [10**9, 3_999_999], [100_000, 25_000], closes=40)),
         ),
     ]
 
@@ -375,6 +385,7 @@ def closing_limits(rng):
 def quarter_cases(rng, count):
     """Quarter: means to hit 19, 9, 13, 23 and 24; what 21 and 22 mean at a close is accepted."""
     yield from limits_of(record_limits(rng) + call_limits(rng))
+    yield 0, "N x 1,000 over 2^64", weighing(a_small_call(rng), [9_999_999_000_000, 1_000_000], [399_999, 25_000])
     for _, what, data in limits_of(closing_limits(rng)):
         yield 24 if data["closes"] == 40 else 0, f"a quarter where {what} at a close", data
     yield from faults_of(rng, a_call, QUARTER_FAULTS)
@@ -396,7 +407,7 @@ def close_cases(rng, count):
 
 def present_units(rng):
     """Shares of a short panel, at least one unit present."""
-    shares = [rng.choice([10_000, 10_000, 9_999, 1, 0]) for _ in range(rng.randrange(1, 9))]
+    shares = [rng.choice([10_000, 10_000, 9_999, 10, 0]) for _ in range(rng.randrange(1, 9))]
     shares[0] = rng.choice([10_000, 3_333])
     return shares
 
@@ -412,9 +423,9 @@ def spoilt(rng, p):
     if style == 0:
         return p[:-1]
     if style == 1:
-        return p + [10_000]
+        return p + [100_000]
     place = rng.randrange(len(p))
-    return replaced(p, place, rng.choice([1, 2_499, 40_001]))
+    return replaced(p, place, rng.choice([1, 10_000, 24_999, 400_001]))
 
 
 def swinging(rng, shares, closes):
@@ -423,13 +434,13 @@ def swinging(rng, shares, closes):
     back = None
     for _ in range(closes):
         if rng.random() < 0.3:
-            calls.append(("quarter", moves(rng, shares, 2_500, 40_000)))
+            calls.append(("quarter", moves(rng, shares, 25_000, 400_000)))
         if rng.random() < 0.1:
-            calls.append((rng.choice(["quarter", "close"]), spoilt(rng, moves(rng, shares, 2_500, 40_000))))
+            calls.append((rng.choice(["quarter", "close"]), spoilt(rng, moves(rng, shares, 25_000, 400_000))))
         if back is None:
-            out = [p if p == 0 else rng.choice([p, 2_500, 40_000]) for p in moves(rng, shares, 2_500, 40_000)]
+            out = [p if p == 0 else rng.choice([p, 25_000, 400_000]) for p in moves(rng, shares, 25_000, 400_000)]
             calls.append(("close", out))
-            back = [10**8 // p if p else 0 for p in out]
+            back = [10**10 // p if p else 0 for p in out]
         else:
             calls.append(("close", back))
             back = None
@@ -441,7 +452,7 @@ def drifting(rng, shares, closes, lowest, highest):
     calls = []
     for _ in range(closes):
         if rng.random() < 0.4:
-            calls.append(("quarter", [rng.choice([2_500, 40_000, 10_000]) if g else 0 for g in shares]))
+            calls.append(("quarter", [rng.choice([25_000, 400_000, 100_000]) if g else 0 for g in shares]))
         calls.append(("close", moves(rng, shares, lowest, highest)))
     return calls
 
@@ -451,28 +462,56 @@ def a_chain(rng):
     shares = present_units(rng)
     closes = rng.choice([1, 3, 8, 20, 39, 40, 41, 43])
     style = rng.randrange(4)
-    lowest, highest = (2_500, 40_000) if style in (0, 3) else (9_900, 10_100)
-    W = [rng.randrange(2 * 10**11, 10**12) for _ in shares]
+    lowest, highest = (25_000, 400_000) if style in (0, 3) else (99_000, 101_000)
+    W = [rng.randrange(2 * 10**10, 10**11) for _ in shares]
     if style == 0:
         calls = swinging(rng, shares, closes)
     elif style == 1:
-        calls = drifting(rng, shares, closes, 9_800, 10_200)
+        calls = drifting(rng, shares, closes, 98_000, 102_000)
     elif style == 2:
         # Weights just over 1,000,000: each floor loses nearly a millionth.
         shares = [rng.choice([10_000, 9_999, 9_998]) for _ in shares]
         W = [rng.choice([1_000_201, 1_010_001, 4_040_000, rng.randrange(1_000_201, 1_100_000)]) for _ in shares]
-        lowest, highest = 10_000, 10_003
-        calls = drifting(rng, shares, closes, 10_000, 10_003)
+        lowest, highest = 100_000, 100_030
+        calls = drifting(rng, shares, closes, 100_000, 100_030)
     else:
-        calls = drifting(rng, shares, closes, 2_500, 40_000)
+        calls = drifting(rng, shares, closes, 25_000, 400_000)
     a = moves(rng, shares, lowest, highest)
     start = rng.choice([10**9, 10**9, rng.randrange(5 * 10**8, 2 * 10**9), 10**8, 10**10])
     return {"W": W, "g": shares, "a": a, "start": start, "calls": calls}
 
 
+def losing(small, large, start, closes, apart):
+    """A chain that loses as much as it can: some units lose nearly one at each floor, the others nothing; at the end they move apart.
+
+    `small` and `large` are (how many, W, g, a, relative at a close, relative apart).
+    """
+    sides = [side for side in (small, large) for _ in range(side[0])]
+    W, g, a, usual, far = ([side[place] for side in sides] for place in range(1, 6))
+    calls = [("close", usual)] * closes + [("close", far)] * apart + [("quarter", far)]
+    return {"W": W, "g": g, "a": a, "start": start, "calls": calls}
+
+
+def hostile_chains():
+    """Chains that use over four fifths of the bound at their end, F below D and above it."""
+    for closes in (0, 5, 20, 36):
+        small = (1, 1_429_212_857, 7, 99_999, 99_999, 400_000)
+        large = (1, 256_000_000, 10_000, 100_000, 100_000, 25_000)
+        yield f"F below D, {closes} closes", losing(small, large, 10**9, closes, 3)
+    for closes in (0, 5, 20, 35):
+        many = (60, 3_334_953_333, 3, 99_999, 99_999, 25_000)
+        one = (1, 1_000_000, 10_000, 100_000, 100_000, 400_000)
+        data = losing(many, one, 4 * 10**8, closes, 0)
+        apart = [99_999] * 60 + [400_000]
+        data["calls"][-1:] = [("close", apart)] * 4 + [data["calls"][-1]]
+        yield f"F above D, {closes} closes", data
+
+
 @cases
 def chain_cases(rng, count):
     """Whole chains for demand 3: openings that are accepted; calls hit 9, 13, 21, 22, 23 and 24."""
+    for what, data in hostile_chains():
+        yield 0, what, data
     for _ in range(count):
         yield 0, "random chain", a_chain(rng)
 

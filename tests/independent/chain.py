@@ -1,4 +1,4 @@
-"""Document 01: "Chain record" with demand 3, and "Total"."""
+"""Document 01: "Chain record" with demand 3, and "Total"; relatives in hundred-thousandths (document 02, [5])."""
 
 from dataclasses import dataclass
 from fractions import Fraction
@@ -6,12 +6,12 @@ from fractions import Fraction
 from . import Refused
 
 PLACES = 100
-SCALE = 10_000
-LOWEST_RELATIVE = 2_500
-HIGHEST_RELATIVE = 40_000
+SCALE = 100_000
+LOWEST_RELATIVE = 25_000
+HIGHEST_RELATIVE = 400_000
 WHOLE_SHARE = 10_000
 LEAST_WEIGHT = 1_000_000
-MOST_WEIGHT = 10**14
+MOST_WEIGHT = 10**13
 LOWEST_INDEX = 10**8
 HIGHEST_INDEX = 10**10
 MOST_CLOSES = 40
@@ -64,7 +64,7 @@ def domain_weight(W, g):
 
 
 def updated_weight(weight, relative):
-    """v = floor(u x a / 10,000) at the open, floor(v x p / 10,000) at a close."""
+    """v = floor(u x a / 100,000) at the open, floor(v x p / 100,000) at a close."""
     return weight * relative // SCALE
 
 
@@ -133,7 +133,7 @@ def figure(record, p):
     weights = record.weights[: record.units]
     V = sum(weights)
     N = sum(weights[i] * p[i] for i in range(record.units))
-    L = N * 10_000 // V
+    L = N * 1_000 // V
     return record.index * L // 100_000_000
 
 
@@ -188,7 +188,7 @@ class Direct:
 
     def __init__(self, W, g, a, start):
         self.start = Fraction(start)
-        self.e = [Fraction(W[i] * g[i] * a[i], 100_000_000) for i in range(len(W))]
+        self.e = [Fraction(W[i] * g[i] * a[i], 1_000_000_000) for i in range(len(W))]
         self.E = sum(self.e)
         self.m = 1
 

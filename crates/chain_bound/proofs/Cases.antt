@@ -19,31 +19,34 @@ use Rattle.rules.proofs.Tests.{never}
 use Rattle.chain_bound.specs.Sentence.{closesIn, directTop, directBottom}
 use Rattle.chain_bound.proofs.Demand3.{demand3}
 
--- ---- the listing: "relatives 10,000 each, open at 1,000,000,000, relatives 10,500, 9,800, 12,000, close, …, quarter"
+-- ---- the listing: each relative ten times document 01's ([5]): 100,000 each, open at 1,000,000,000, 105,000, 98,000, 120,000, close, …, quarter
 abbrev ws : List ℕ
 ws = 140000000 ∷ 30000000 ∷ 30000000 ∷ []
 
+abbrev wholes : List ℕ
+wholes = 10000 ∷ 10000 ∷ 10000 ∷ []
+
 abbrev ones : List ℕ
-ones = 10000 ∷ 10000 ∷ 10000 ∷ []
+ones = 100000 ∷ 100000 ∷ 100000 ∷ []
 
 abbrev start : ℕ
 start = 1000000000
 
 abbrev firstClose : Call
-firstClose = Call.close (10500 ∷ 9800 ∷ 12000 ∷ [])
+firstClose = Call.close (105000 ∷ 98000 ∷ 120000 ∷ [])
 
 abbrev lastQuarter : Call
-lastQuarter = Call.quarter (10000 ∷ 10000 ∷ 10100 ∷ [])
+lastQuarter = Call.quarter (100000 ∷ 100000 ∷ 101000 ∷ [])
 
 abbrev listing : List Call
 listing = firstClose ∷ lastQuarter ∷ []
 
 -- the record that the listing's open answers, and the exact weights beside it
 abbrev record₀ : Chain
-record₀ = openRecord (shared ws ones) ones start
+record₀ = openRecord (shared ws wholes) ones start
 
 abbrev direct₀ : Direct
-direct₀ = directOpen ws ones ones start
+direct₀ = directOpen ws wholes ones start
 
 -- ---- an open whose two floors both lose nearly 1 of a weight of a million
 abbrev lowBase : List ℕ
@@ -53,28 +56,28 @@ abbrev lowShares : List ℕ
 lowShares = 1 ∷ 10000 ∷ []
 
 abbrev lowUpdates : List ℕ
-lowUpdates = 10010 ∷ 10000 ∷ []
+lowUpdates = 100100 ∷ 100000 ∷ []
 
 abbrev lowDirect : Direct
 lowDirect = directOpen lowBase lowShares lowUpdates start
 
 -- the relatives pull the two units as far apart as they may
 abbrev apart : List ℕ
-apart = 40000 ∷ 2500 ∷ []
+apart = 400000 ∷ 25000 ∷ []
 
 -- ---- a program whose second close answers well and hands back its record untouched: the quarter after it is answered from there again
 abbrev secondClose : Call
-secondClose = Call.close (12000 ∷ 10000 ∷ 10000 ∷ [])
+secondClose = Call.close (120000 ∷ 100000 ∷ 100000 ∷ [])
 
 abbrev record₁ : Chain
 record₁ = after record₀ firstClose
 
 -- ---- what the calls come to
 pub record Answered : Type 0 where
-  pub listing-opens : openAnswer ws ones ones start ≡ Judged.given record₀
+  pub listing-opens : openAnswer ws wholes ones start ≡ Judged.given record₀
   pub listing-events : events record₀ listing ≡ Event.answered firstClose 1062000000 ∷ Event.answered lastQuarter 1063799994 ∷ []
-  -- a relative of 2,499 between the listing's two calls
-  pub listing-refused : events record₀ (firstClose ∷ Call.close (2499 ∷ 10000 ∷ 10000 ∷ []) ∷ lastQuarter ∷ []) ≡
+  -- a relative of 24,999 between the listing's two calls
+  pub listing-refused : events record₀ (firstClose ∷ Call.close (24999 ∷ 100000 ∷ 100000 ∷ []) ∷ lastQuarter ∷ []) ≡
       Event.answered firstClose 1062000000 ∷ Event.refused 13 ∷ Event.answered lastQuarter 1063799994 ∷ []
   -- forty closes answer figures; after them a close and a quarter are refused by 24, not earlier
   pub forty-closes : events record₀ (replicate 40 (Call.close ones) ++ Call.close ones ∷ Call.quarter ones ∷ []) ≡
@@ -101,11 +104,11 @@ answered =
 
 -- what the theorem says of the listing's two figures
 pub listing-within : AllWithin direct₀ (Event.answered firstClose 1062000000 ∷ Event.answered lastQuarter 1063799994 ∷ [])
-listing-within = rw (answered .listing-events) at (demand3 ws ones ones start record₀ (answered .listing-opens) listing)
+listing-within = rw (answered .listing-events) at (demand3 ws wholes ones start record₀ (answered .listing-opens) listing)
 
 -- "Here D is 1,063,800,000": the last quarter's, spelt out
 abbrev es : List ℕ
-es = products (products ws ones) ones
+es = products (products ws wholes) ones
 
 abbrev closed : List (List ℕ)
 closed = closesIn (Event.answered firstClose 1062000000 ∷ [])

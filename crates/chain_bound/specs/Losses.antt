@@ -11,7 +11,7 @@ parts = 100000000
 abbrev pub weightLoss : ℕ
 weightLoss = 100
 
--- L is at least 25,000,000, since a relative is at least 2,500 (13).
+-- L is at least 25,000,000, since a relative is at least 25,000 (13).
 abbrev pub leastLink : ℕ
 leastLink = lowestRelative * linkScale
 

@@ -14,17 +14,17 @@ closesIn (Event.refused n ∷ rest) = closesIn rest
 closesIn (Event.answered (Call.quarter ps) f ∷ rest) = closesIn rest
 closesIn (Event.answered (Call.close ps) f ∷ rest) = ps ∷ closesIn rest
 
--- "each e becomes e × p / 10,000": e × p after each of the closes …
+-- "each e becomes e × p / 100,000": e × p after each of the closes …
 abbrev pub exactAfter : List ℕ → List (List ℕ) → List ℕ
 exactAfter es [] = es
 exactAfter es (ps ∷ later) = exactAfter (products es ps) later
 
--- … over 10,000 for each
+-- … over 100,000 for each
 abbrev pub scaleAfter : List (List ℕ) → ℕ
 scaleAfter [] = 1
 scaleAfter (ps ∷ later) = relativeScale * scaleAfter later
 
--- "the start index given to the open × the sum of (e × p / 10,000) / E": e and E are W × g × a over the same 100,000,000, which cancels
+-- "the start index given to the open × the sum of (e × p / 100,000) / E": e and E are W × g × a over the same 1,000,000,000, which cancels
 abbrev pub directTop : List ℕ → ℕ → List (List ℕ) → List ℕ → ℕ
 directTop es start closes ps = start * sum (products (exactAfter es closes) ps)
 

@@ -36,7 +36,7 @@ fn judge_call(places: &[u64], numbers: Numbers, p: &[u32]) -> Verdict
     Verdict::Accepted
 }
 
-// L = floor(N × 10,000 / V) by quotient and remainder, since N × 10,000 need not fit.
+// L = floor(N × 1,000 / V) by quotient and remainder, since N × 1,000 need not fit.
 fn link(n: u64, v: u64) -> u64
     requires { ⌜ (0 < v) × (v ≤ mostWeight) × (n ≤ highestRelative * v) ⌝ }
     ensures { λ r. ⌜ r ≡ n * linkScale / v ⌝ }

@@ -11,6 +11,6 @@ abbrev pub answerFrom : Checked → Judged ℕ
 answerFrom (Valid p) = Judged.given (p .0)
 answerFrom OutOfRange = Judged.refused 13
 
--- "A relative is in ten-thousandths, 2,500 to 40,000"
+-- "hundred-thousandths, 25,000 to 400,000"
 abbrev pub checkedAnswer : ℕ → Judged ℕ
 checkedAnswer x = judged (refuse (outside lowestRelative highestRelative x) 13) x

@@ -1,4 +1,4 @@
-// Document 01, "Chain record": a relative is in ten-thousandths, "and the range belongs to the relative itself".
+// Document 01, "Chain record", and document 02, [5]: a relative is in hundred-thousandths, "and the range belongs to the relative itself".
 ghost use mathlib.Core.Path.{_≡_};
 ghost use Rattle.chain_relative.specs.Checked.{answerFrom, checkedAnswer};
 
@@ -11,12 +11,12 @@ pub enum Checked {
 }
 
 impl Relative {
-    pub const LOWEST: u32 = 2500;
+    pub const LOWEST: u32 = 25000;
 
-    pub const HIGHEST: u32 = 40000;
+    pub const HIGHEST: u32 = 400000;
 
     // A relative of 1. Weights are 64-bit, and so is what divides them.
-    pub const SCALE: u64 = 10000;
+    pub const SCALE: u64 = 100000;
 
     pub fn new(x: u32) -> Checked
         ensures { λ r. ⌜ answerFrom r ≡ checkedAnswer x ⌝ }

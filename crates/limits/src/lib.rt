@@ -31,13 +31,13 @@ pub const STEP_LENGTH: u32 = 1000;
 pub const SHARE_SCALE: u64 = 10_000;
 
 // L is a mean relative times this.
-pub const LINK_SCALE: u64 = 10_000;
+pub const LINK_SCALE: u64 = 1_000;
 
 // The least u or v of a present unit.
 pub const LEAST_WEIGHT: u64 = 1_000_000;
 
 // The sum of W, and of v.
-pub const MOST_WEIGHT: u64 = 100_000_000_000_000;
+pub const MOST_WEIGHT: u64 = 10_000_000_000_000;
 
 // An index; 100 is 1,000,000,000.
 pub const LOWEST_INDEX: u64 = 100_000_000;

@@ -24,7 +24,7 @@ numberOf OldPanel = 7
 numberOf NoStep = 8
 -- "unit lists empty, over 100, or unequal to each other or to the record"
 numberOf UnitLists = 9
--- "a W of 0, or their sum over 10^14"
+-- "a W of 0, or their sum over 10^13" (document 02, [5])
 numberOf BaseWeights = 10
 -- "a share over 10,000, or all 0"
 numberOf Shares = 11
@@ -48,7 +48,7 @@ numberOf State = 19
 numberOf FrameFull = 20
 -- "a present u or v below 1,000,000, at open or after close"
 numberOf LowWeight = 21
--- "sum of v over 10^14, likewise"
+-- "sum of v over 10^13, likewise" (document 02, [5])
 numberOf WeightSum = 22
 -- "F outside 10^8 to 10^10"
 numberOf FigureRange = 23

@@ -46,7 +46,7 @@ same-ratio = record { defined = omega arith; notAbove = omega arith; notBelow = 
 pub undefined-outside : Within 0 0 0 2 → ⊥
 undefined-outside w = omega (arith, w .defined)
 
--- "each e becomes e × p / 10,000, without rounding": the exact weight 1,000,001 × 9,999 × 10,001 is no multiple of 10,000, and D is 1,000,000,000 × 1.0001
+-- "each e becomes e × p / 100,000, without rounding": the exact weight 1,000,001 × 9,999 × 100,001 is no multiple of 100,000, and D is 1,000,000,000 × 1.00001
 -- to the last digit
 abbrev up : ℕ
 up = relativeScale + 1

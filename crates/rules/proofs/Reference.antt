@@ -44,11 +44,11 @@ streamA =
     ∷ 1 ∷ 0 ∷ 0 ∷ 0 ∷ 14 ∷ 0 ∷ 0 ∷ 0 ∷ 0 ∷ 0 ∷ 106 ∷ 207 ∷ 192 ∷ 0 ∷ 13 ∷ 187 ∷ 160
     ∷ 1 ∷ 0 ∷ 0 ∷ 0 ∷ 15 ∷ 0 ∷ 0 ∷ 0 ∷ 0 ∷ 0 ∷ 76 ∷ 75 ∷ 64 ∷ 0 ∷ 1 ∷ 134 ∷ 160
     ∷ 2 ∷ 3 ∷ 0 ∷ 0 ∷ 0 ∷ 0
-    ∷ 4 ∷ 0 ∷ 0 ∷ 0 ∷ 39 ∷ 16 ∷ 4 ∷ 1 ∷ 0 ∷ 0 ∷ 39 ∷ 16 ∷ 4 ∷ 2 ∷ 0 ∷ 0 ∷ 39 ∷ 16
+    ∷ 4 ∷ 0 ∷ 0 ∷ 1 ∷ 134 ∷ 160 ∷ 4 ∷ 1 ∷ 0 ∷ 1 ∷ 134 ∷ 160 ∷ 4 ∷ 2 ∷ 0 ∷ 1 ∷ 134 ∷ 160
     ∷ 5 ∷ 0 ∷ 0 ∷ 0 ∷ 0 ∷ 59 ∷ 154 ∷ 202 ∷ 0
-    ∷ 4 ∷ 0 ∷ 0 ∷ 0 ∷ 41 ∷ 4 ∷ 4 ∷ 1 ∷ 0 ∷ 0 ∷ 38 ∷ 72 ∷ 4 ∷ 2 ∷ 0 ∷ 0 ∷ 46 ∷ 224
+    ∷ 4 ∷ 0 ∷ 0 ∷ 1 ∷ 154 ∷ 40 ∷ 4 ∷ 1 ∷ 0 ∷ 1 ∷ 126 ∷ 208 ∷ 4 ∷ 2 ∷ 0 ∷ 1 ∷ 212 ∷ 192
     ∷ 7
-    ∷ 4 ∷ 0 ∷ 0 ∷ 0 ∷ 39 ∷ 16 ∷ 4 ∷ 1 ∷ 0 ∷ 0 ∷ 39 ∷ 16 ∷ 4 ∷ 2 ∷ 0 ∷ 0 ∷ 39 ∷ 116
+    ∷ 4 ∷ 0 ∷ 0 ∷ 1 ∷ 134 ∷ 160 ∷ 4 ∷ 1 ∷ 0 ∷ 1 ∷ 134 ∷ 160 ∷ 4 ∷ 2 ∷ 0 ∷ 1 ∷ 138 ∷ 136
     ∷ 6
     ∷ []
 
@@ -62,11 +62,11 @@ linesA =
     ∷ 81 ∷ 32 ∷ 49 ∷ 48 ∷ 54 ∷ 51 ∷ 55 ∷ 57 ∷ 57 ∷ 57 ∷ 57 ∷ 52 ∷ 10
     ∷ []
 
--- "relatives 10,500, 9,800, 12,000, close, relatives 10,000, 10,000, 10,100, quarter"
+-- "The listing keeps its figures with each relative written ten times larger" ([5]): 105,000, 98,000, 120,000, close, 100,000, 100,000, 101,000, quarter
 abbrev directA : Direct
 directA =
-    directAfter (directOpen (140000000 ∷ 30000000 ∷ 30000000 ∷ []) (10000 ∷ 10000 ∷ 10000 ∷ []) (10000 ∷ 10000 ∷ 10000 ∷ []) 1000000000)
-    (Call.close (10500 ∷ 9800 ∷ 12000 ∷ []))
+    directAfter (directOpen (140000000 ∷ 30000000 ∷ 30000000 ∷ []) (10000 ∷ 10000 ∷ 10000 ∷ []) (100000 ∷ 100000 ∷ 100000 ∷ []) 1000000000)
+    (Call.close (105000 ∷ 98000 ∷ 120000 ∷ []))
 
 -- a record of one unit, of which a quarter asks one relative
 abbrev oneUnit : Chain
@@ -114,14 +114,14 @@ pub record ReferenceTable : Type 0 where
   -- K7, K8: the C and the Q figure of the listing, whose output is exact
   k7-k8 : output streamA ≡ linesA
   -- "Here D is 1,063,800,000"; its denominator is not 0
-  k8-direct : numerator directA (10000 ∷ 10000 ∷ 10100 ∷ []) ≡ 1063800000 * denominator directA (10000 ∷ 10000 ∷ 10100 ∷ [])
-  k8-defined : ltb 0 (denominator directA (10000 ∷ 10000 ∷ 10100 ∷ [])) ≡ true
+  k8-direct : numerator directA (100000 ∷ 100000 ∷ 101000 ∷ []) ≡ 1063800000 * denominator directA (100000 ∷ 100000 ∷ 101000 ∷ [])
+  k8-defined : ltb 0 (denominator directA (100000 ∷ 100000 ∷ 101000 ∷ [])) ≡ true
   -- K9: z = 1, start 0: unit 1 (equal keys, lower number first)
   k9-answer : drawAnswer frameTied 1 0 buffer buffer ≡ drawn 1 30
   k9-numbers : drawNumbers frameTied 1 0 buffer buffer ≡ 1 ∷ 9 ∷ 9 ∷ 8 ∷ []
-  -- K10: relative 2,499 refused by 13, 2,500 taken
-  k10-refused : callAnswer oneUnit (Call.quarter (2499 ∷ [])) ≡ Judged.refused 13
-  k10-taken : callAnswer oneUnit (Call.quarter (2500 ∷ [])) ≡ Judged.given 250000000
+  -- K10 ([5]): relative 24,999 refused by 13, 25,000 taken
+  k10-refused : callAnswer oneUnit (Call.quarter (24999 ∷ [])) ≡ Judged.refused 13
+  k10-taken : callAnswer oneUnit (Call.quarter (25000 ∷ [])) ≡ Judged.given 250000000
   -- K11
   k11 : totalAnswer (600000 ∷ 400000 ∷ []) (1062000000 ∷ 1000000000 ∷ []) ≡ Judged.given 1037200000
 

@@ -43,7 +43,7 @@ badUnits n = eqb n 0 or ltb mostPanel n
 abbrev pub shared : List ℕ → List ℕ → List ℕ
 shared ws gs = scaled shareScale ws gs
 
--- "the opening weight is v = floor(u × a / 10,000)", from the u
+-- "the opening weight is v = floor(u × a / 100,000)" ([5]), from the u
 abbrev pub opening : List ℕ → List ℕ → List ℕ
 opening us rs = scaled relativeScale us rs
 
@@ -51,7 +51,7 @@ opening us rs = scaled relativeScale us rs
 unfoldable pub badOpenLists : List ℕ → List ℕ → List ℕ → Bool
 badOpenLists ws gs rs = badUnits (length ws) or not (eqb (length gs) (length ws)) or not (eqb (length rs) (length ws))
 
--- 10: "a W of 0, or their sum over 10^14"
+-- 10: "a W of 0, or their sum over 10^13" ([5])
 unfoldable pub badBase : List ℕ → Bool
 badBase ws = anyOf (λ w. eqb w 0) ws or ltb mostWeight (sum ws)
 
@@ -103,7 +103,7 @@ abbrev pub relatives : Call → List ℕ
 relatives (quarter ps) = ps
 relatives (close ps) = ps
 
--- "V is the sum of v, N the sum of v × p. L = floor(N × 10,000 / V)"
+-- "V is the sum of v, N the sum of v × p. L = floor(N × 1,000 / V)" ([5])
 unfoldable pub link : List ℕ → List ℕ → ℕ
 link vs ps = sum (products vs ps) * linkScale / sum vs
 
@@ -114,7 +114,7 @@ figureAt c vs ps = c * link vs ps / (linkScale * relativeScale)
 abbrev pub figureOf : Chain → List ℕ → ℕ
 figureOf r ps = figureAt (r .index) (held r) ps
 
--- "each v to floor(v × p / 10,000)" (formula 20)
+-- "each v to floor(v × p / 100,000)" (formula 20, [5])
 abbrev pub moved : Chain → List ℕ → List ℕ
 moved r ps = scaled relativeScale (held r) ps
 
@@ -158,7 +158,7 @@ callRefusal r call =
 unfoldable pub callAnswer : Chain → Call → Judged ℕ
 callAnswer r call = judged (callRefusal r call) (figureOf r (relatives call))
 
--- Quarter: "the record is unchanged". Close: "sets C to F, each v to floor(v × p / 10,000), and counts one close"; other places stay.
+-- Quarter: "the record is unchanged". Close: "sets C to F, each v to floor(v × p / 100,000), and counts one close"; other places stay.
 abbrev pub accepted : Chain → Call → Chain
 accepted r (quarter ps) = r
 accepted r (close ps) =

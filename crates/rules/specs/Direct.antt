@@ -15,7 +15,7 @@ pub record Exact : Type 0 where
   pub total : ℕ
   pub totalScale : ℕ
 
--- "each unit's exact weight e is its exact opening weight, E is the sum of all e": u without its floor is `us` over `scale`, and e is u × a / 10,000
+-- "each unit's exact weight e is its exact opening weight, E is the sum of all e": u without its floor is `us` over `scale`, and e is u × a / 100,000
 unfoldable pub exactOpen : List ℕ → ℕ → List ℕ → Exact
 exactOpen us scale rs =
     record {
@@ -25,7 +25,7 @@ exactOpen us scale rs =
       totalScale = scale * relativeScale;
     }
 
--- "each e becomes e × p / 10,000, without rounding"
+-- "each e becomes e × p / 100,000, without rounding" ([5])
 unfoldable pub exactMoved : Exact → List ℕ → Exact
 exactMoved x ps =
     record {
@@ -50,18 +50,18 @@ pub record Direct : Type 0 where
   pub exact : Exact
   pub m : ℕ
 
--- "the start index given to the open"; the exact opening weight is W × g × a / 100,000,000; "m is 1"
+-- "the start index given to the open"; the exact opening weight is W × g × a / 1,000,000,000 ([5]); "m is 1"
 unfoldable pub directOpen : List ℕ → List ℕ → List ℕ → ℕ → Direct
 directOpen ws gs rs start = record { top = start; bottom = 1; exact = exactOpen (products ws gs) shareScale rs; m = 1 }
 
--- "D is the start index given to the open × the sum of (e × p / 10,000) / E", as numerator and denominator
+-- "D is the start index given to the open × the sum of (e × p / 100,000) / E", as numerator and denominator
 unfoldable pub numerator : Direct → List ℕ → ℕ
 numerator d ps = d .top * meanTop (exactMoved (d .exact) ps)
 
 unfoldable pub denominator : Direct → List ℕ → ℕ
 denominator d ps = d .bottom * meanBottom (exactMoved (d .exact) ps)
 
--- Quarter: "Nothing changes." Close: "each e becomes e × p / 10,000, … and m grows by one."
+-- Quarter: "Nothing changes." Close: "each e becomes e × p / 100,000, … and m grows by one."
 abbrev pub directAfter : Direct → Call → Direct
 directAfter d (Call.quarter ps) = d
 directAfter d (Call.close ps) = record { top = d .top; bottom = d .bottom; exact = exactMoved (d .exact) ps; m = suc (d .m) }

@@ -36,27 +36,27 @@ stepLength = 1000
 abbrev pub shareScale : ℕ
 shareScale = 10000
 
--- a relative of 1, and the range that belongs to the relative
+-- a relative of 1, in hundred-thousandths (document 02, [5]), and the range that belongs to the relative
 abbrev pub relativeScale : ℕ
-relativeScale = 10000
+relativeScale = 100000
 
 abbrev pub lowestRelative : ℕ
-lowestRelative = 2500
+lowestRelative = 25000
 
 abbrev pub highestRelative : ℕ
-highestRelative = 40000
+highestRelative = 400000
 
 -- L is a mean relative times this
 abbrev pub linkScale : ℕ
-linkScale = 10000
+linkScale = 1000
 
 -- the least u or v of a present unit
 abbrev pub leastWeight : ℕ
 leastWeight = 1000000
 
--- the sum of W, and of v, 10^14
+-- the sum of W, and of v, 10^13 (document 02, [5])
 abbrev pub mostWeight : ℕ
-mostWeight = 100000000000000
+mostWeight = 10000000000000
 
 -- an index, 10^8 to 10^10 (an index of 100 is 10^9)
 abbrev pub lowestIndex : ℕ

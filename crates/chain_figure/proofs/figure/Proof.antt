@@ -1,4 +1,4 @@
--- `figure` is F from V and N: relatives in range keep N within 40,000 × V, and so L and C × L below 2^64.
+-- `figure` is F from V and N: relatives in range keep N within 400,000 × V, and so L and C × L below 2^64.
 use native.Mathlib.Omega.{arith}
 use native.Mathlib.Nat.{mul-le-mul}
 use mathlib.Core.Path.{sym, ap}
