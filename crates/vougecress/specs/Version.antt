@@ -2,4 +2,4 @@
 use Prim.Native.Nat.{ℕ}
 
 abbrev pub libraryVersion : ℕ
-libraryVersion = 10000
+libraryVersion = 20000
