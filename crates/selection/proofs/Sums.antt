@@ -13,7 +13,7 @@ use Rattle.rules.specs.Tests.{_or_, _and_}
 use Rattle.rules.specs.Refusals.{written}
 use Rattle.rules.specs.Lists.{sum}
 use Rattle.rules.specs.Selection.{sumOf, count, listed, every}
-use Rattle.rules.proofs.Tests.{by-test}
+use Rattle.rules.proofs.Tests.{by-test, cannot-hold}
 
 module _ (p q : ℕ → Bool) (f : ℕ → ℕ) where
   -- more marks, a larger sum
@@ -132,6 +132,10 @@ module _ (p : ℕ → Bool) where
   -- a marked unit is counted
   pub has-room : (n i : ℕ) → i < n → p i ≡ true → count p i < count p n
   has-room n i l h = omega (arith, count-yes i h, count-grows (i + 1) n (omega arith))
+
+  -- where no more are counted, none is marked
+  pub count-rest : (i n : ℕ) → count p i ≡ count p n → (k : ℕ) → i ≤ k → k < n → p k ≡ false
+  count-rest i n e k l h = cannot-hold (p k) (λ q. omega (arith, has-room n k h q, count-grows i k l))
 
   -- the marked and the unmarked are all
   pub count-both : (n : ℕ) → count p n + count (λ i. not (p i)) n ≡ n
