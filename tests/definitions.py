@@ -55,9 +55,11 @@ def header(found):
         "use lib.ListN.{replicate}",
         "use lib.IntN.{ℤ, pos, negsuc}",
     ]
+    seen = set()  # a record's name may stand in two modules; no case names one
     for module, (names, _) in found.items():
         if module not in HIDDEN:
-            lines.append(f"use Rattle.rules.specs.{module}.{{{', '.join(names)}}}")
+            lines.append(f"use Rattle.rules.specs.{module}.{{{', '.join(name for name in names if name not in seen)}}}")
+            seen.update(names)
     lines += [
         "",
         "abbrev upFrom : ℕ → ℕ → List ℕ",
