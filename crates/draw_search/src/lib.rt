@@ -26,10 +26,15 @@ fn most(parts: &[u64]) -> u64 {
     most
 }
 
-// The smallest number that at least z parts do not exceed, by halves.
+// The smallest number that at least z parts do not exceed, by halves. Where that is the largest part, as with many equal keys, one count tells.
 pub fn nth(parts: &[u64], z: usize) -> u64 {
     let mut low: u64 = 0;
     let mut high = most(parts);
+    if 0 < high {
+        if tally(parts, high - 1) < z {
+            return high;
+        }
+    }
     while low < high {
         let middle = low + (high - low) / 2;
         if tally(parts, middle) < z {

@@ -16,5 +16,6 @@ abbrev μ-loop : tie.MeasureT-loop
 pub nth-spec : {M : Type 1} → statement M
 nth-spec =
     tie.close
-    (tie.spec Inv-loop μ-loop (λ c κs. tt) (λ c. (omega arith, search needs)) (λ c. search needs) (λ c. search needs) (λ c κs. tt) (λ c. search needs)
-    (λ c. search needs) (λ c. (omega arith, omega arith)) (λ c. search needs) (λ c. (omega arith, omega arith)) (λ c. tt))
+    (tie.spec Inv-loop μ-loop (λ c κs. tt) (λ c. search needs) (λ c κs. tt) (λ c. tt) (λ c. (omega arith, search needs)) (λ c. search needs)
+    (λ c. search needs) (λ c κs. tt) (λ c. search needs) (λ c. search needs) (λ c. (omega arith, omega arith)) (λ c. search needs)
+    (λ c. (omega arith, omega arith)) (λ c. tt))
