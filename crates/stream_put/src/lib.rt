@@ -4,13 +4,12 @@ ghost use lib.ListN.{length};
 ghost use Rattle.rules.specs.Writing.{bytesWith};
 ghost use Rattle.text_decimal.specs.Put.{Put};
 
-// Lays b at the place at, and answers the place after it.
+// Lays b at the place at as a number of one byte, and answers the place after it.
 pub fn put_byte(out: &mut [u8], at: usize, b: u8) -> usize
     requires { ⌜ at + 1 ≤ length (now out) ⌝ }
     ensures { λ r. ⌜ Put at (bytesWith 1 b) (now (out .entry)) (now (out .exit)) r ⌝ }
 {
-    out[at] = b;
-    at + 1
+    text_decimal::put_byte(out, at, b)
 }
 
 // Lays two bytes, the first the highest.

@@ -1,16 +1,12 @@
--- One store is a text of one byte laid, and a byte is its own number.
+-- A byte is its own number, so a text of one byte that is laid is a number of one byte.
 use borrow.Author.Needs.{needs}
-use mathlib.Core.Path.{refl, sym}
+use mathlib.Core.Path.{sym}
 use native.Mathlib.Omega.{arith}
-use Rattle.text_decimal.proofs.Laying.{byte, says}
+use Rattle.text_decimal.proofs.Laying.{says}
 use Rattle.stream_put.proofs.Halves.{one-byte}
 use Rattle.stream_put.proofs.put_byte.Statement.{statement}
 use Rattle.stream_put.proofs.put_byte.Tie as tie
 
-returns : tie.Need-returns
-returns c =
-    let a = c .args in
-    says (sym (one-byte (a .b) (omega arith))) (record { place = refl; bytes = byte (a .out .now) (a .at) (a .b) (omega arith) })
-
 pub put-byte-spec : {M : Type 1} → statement M
-put-byte-spec = tie.close (tie.spec (λ c. search needs) (λ c. search needs) (λ c. search needs) returns)
+put-byte-spec = tie.close (tie.spec (λ c κs. search needs) (λ c. search needs)
+    (λ c. says (sym (one-byte (c .before .before .before .before .before .args .b) (omega arith))) (c .before .before .put-byte .ensures)))
