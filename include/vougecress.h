@@ -61,7 +61,12 @@ enum vougecress_refusal {
     VOUGECRESS_REFUSED_WEIGHT_SUM = 22,      /* sum of v over 10^13, at open or after close */
     VOUGECRESS_REFUSED_FIGURE_RANGE = 23,    /* F outside 10^8 to 10^10 */
     VOUGECRESS_REFUSED_CLOSES_SPENT = 24,    /* forty closes accepted (quarter too) */
+    VOUGECRESS_REFUSED_PREVIOUS_SAMPLE = 25, /* n' is over 100, X' is over 10^12, or X' is 0 while n' is not */
+    VOUGECRESS_REFUSED_BIRTHS = 26,          /* births exceed 16,384, are not rising or are not all in the frame */
     VOUGECRESS_REFUSED_WRITING = 27,         /* lists given are unequal, or the buffer is shorter than the stream needs */
+    VOUGECRESS_REFUSED_YEAR_ROOM = 28,       /* the figures buffer has fewer than four places */
+    VOUGECRESS_REFUSED_OUTSIDE_SHARE = 29,   /* some unit is sampled and G is 0 or over 10,000, T is 0, or sampled units differ in W */
+    VOUGECRESS_REFUSED_PREVIOUS_LISTS = 30,  /* γ is 0 or over 1,000, or a previous list is over 100 or not rising */
     VOUGECRESS_REFUSED_SAMPLE = 31,          /* the lists are unequal, empty or over 64, a strength is out of range, T is over 6,400 or the minima together exceed T */
     VOUGECRESS_REFUSED_SHEET_LINE = 32,      /* a name is otherwise, a figure is outside 10^8 to 10^10 or the buffer is shorter than 49 bytes (a name is 1 to 20 printable ASCII bytes) */
     VOUGECRESS_REFUSED_TEST_LOAD = 33,       /* the start is 2^31 or more, or the count is 0 or over 16,384, or a buffer is shorter */

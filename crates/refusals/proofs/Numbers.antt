@@ -4,7 +4,7 @@ use Prim.Native.Nat.{ℕ, suc, pred}
 use native.Mathlib.Omega.{arith}
 use Rattle.refusals.specs.Number.{numberOf}
 use Rattle.refusals.specs.declared.Refusal.{Refusal}
-use Rattle.refusals.specs.declared.Refusal.the-variants.{FrameLists, UnitNumbers, Turnovers, RandomNumbers, PanelSize, ResultBuffer, OldPanel, NoStep, UnitLists, BaseWeights, Shares, StartIndex, Relatives, Sectors, StreamLength, UnknownCommand, CutShort, Place, State, FrameFull, LowWeight, WeightSum, FigureRange, ClosesSpent, TestLoad, Sample, RegisterLine, RegisterRoom, SheetLine, Writing}
+use Rattle.refusals.specs.declared.Refusal.the-variants.{FrameLists, UnitNumbers, Turnovers, RandomNumbers, PanelSize, ResultBuffer, OldPanel, NoStep, UnitLists, BaseWeights, Shares, StartIndex, Relatives, Sectors, StreamLength, UnknownCommand, CutShort, Place, State, FrameFull, LowWeight, WeightSum, FigureRange, ClosesSpent, TestLoad, Sample, RegisterLine, RegisterRoom, SheetLine, Writing, PreviousSample, Births, YearRoom, OutsideShare, PreviousLists}
 
 pub number-is-suc : (why : Refusal) → numberOf why ≡ suc (pred (numberOf why))
 number-is-suc FrameLists = refl
@@ -37,6 +37,11 @@ number-is-suc RegisterLine = refl
 number-is-suc RegisterRoom = refl
 number-is-suc SheetLine = refl
 number-is-suc Writing = refl
+number-is-suc PreviousSample = refl
+number-is-suc Births = refl
+number-is-suc YearRoom = refl
+number-is-suc OutsideShare = refl
+number-is-suc PreviousLists = refl
 
 pub number-some : (why : Refusal) → (n : ℕ) × (numberOf why ≡ suc n)
 number-some why = (pred (numberOf why), number-is-suc why)

@@ -1,7 +1,7 @@
 -- Document 01, "Refusals caused by the input" and "… by the state": the number of each case.
 use Prim.Native.Nat.{ℕ}
 use Rattle.refusals.specs.declared.Refusal.{Refusal}
-use Rattle.refusals.specs.declared.Refusal.the-variants.{FrameLists, UnitNumbers, Turnovers, RandomNumbers, PanelSize, ResultBuffer, OldPanel, NoStep, UnitLists, BaseWeights, Shares, StartIndex, Relatives, Sectors, StreamLength, UnknownCommand, CutShort, Place, State, FrameFull, LowWeight, WeightSum, FigureRange, ClosesSpent, TestLoad, Sample, RegisterLine, RegisterRoom, SheetLine, Writing}
+use Rattle.refusals.specs.declared.Refusal.the-variants.{FrameLists, UnitNumbers, Turnovers, RandomNumbers, PanelSize, ResultBuffer, OldPanel, NoStep, UnitLists, BaseWeights, Shares, StartIndex, Relatives, Sectors, StreamLength, UnknownCommand, CutShort, Place, State, FrameFull, LowWeight, WeightSum, FigureRange, ClosesSpent, TestLoad, Sample, RegisterLine, RegisterRoom, SheetLine, Writing, PreviousSample, Births, YearRoom, OutsideShare, PreviousLists}
 use Rattle.refusals.specs.declared.Verdict.{Verdict}
 use Rattle.refusals.specs.declared.Verdict.the-variants.{Accepted, Refused}
 
@@ -66,6 +66,16 @@ numberOf RegisterRoom = 35
 numberOf SheetLine = 32
 -- document 02, [4]: "lists given are unequal, or the buffer is shorter than the stream needs"
 numberOf Writing = 27
+-- document 02, [2]: "n' is over 100, X' is over 10^12, or X' is 0 while n' is not"
+numberOf PreviousSample = 25
+-- document 02, [2]: "births exceed 16,384, are not rising or are not all in the frame"
+numberOf Births = 26
+-- document 02, [6]: "the figures buffer has fewer than four places"
+numberOf YearRoom = 28
+-- document 02, [7]: "some unit is sampled and G is 0 or over 10,000, T is 0, or sampled units differ in W"
+numberOf OutsideShare = 29
+-- document 02, [9]: "γ is 0 or over 1,000, or a previous list is over 100 or not rising"
+numberOf PreviousLists = 30
 
 -- 0 where no refusal applies
 abbrev pub verdictOf : Verdict → ℕ

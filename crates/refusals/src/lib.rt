@@ -33,6 +33,11 @@ pub enum Refusal {
     RegisterRoom,
     SheetLine,
     Writing,
+    PreviousSample,
+    Births,
+    YearRoom,
+    OutsideShare,
+    PreviousLists,
 }
 
 // What a group of tests finds: the first refusal that applies, or none.
@@ -77,6 +82,11 @@ impl Refusal {
             Refusal::RegisterRoom => 35,
             Refusal::SheetLine => 32,
             Refusal::Writing => 27,
+            Refusal::PreviousSample => 25,
+            Refusal::Births => 26,
+            Refusal::YearRoom => 28,
+            Refusal::OutsideShare => 29,
+            Refusal::PreviousLists => 30,
         }
     }
 }
