@@ -1,4 +1,4 @@
--- `Learnt` is what the code gives, and no hypothesis: of each of the three functions, called by its name, a caller knows it by the function's own theorem.
+-- `Learnt` is what the code gives, and no hypothesis: of each of the four functions, called by its name, a caller knows it by the function's own theorem.
 use mathlib.Core.Path.{_≡_}
 use mathlib.Core.List.{List}
 use Prim.Native.Nat.{ℕ}
@@ -22,6 +22,10 @@ use Rattle.chain_open.proofs.«open».Kinds as open-kinds
 use Rattle.chain_open.proofs.«open».Reads as open-reads
 use Rattle.chain_open.proofs.«open».Met as open-theorem
 use Rattle.chain_open.proofs.«open».Symbol as open-symbol
+use Rattle.chain_open.proofs.open_outside.Kinds as open-outside-kinds
+use Rattle.chain_open.proofs.open_outside.Reads as open-outside-reads
+use Rattle.chain_open.proofs.open_outside.Met as open-outside-theorem
+use Rattle.chain_open.proofs.open_outside.Symbol as open-outside-symbol
 
 -- in any model w of the machine, and any environment γ in which the function's name means its code
 module _ (w : World) (γ : Env) where
@@ -30,6 +34,11 @@ module _ (w : World) (γ : Env) where
 
   pub open-known : γ open-symbol.name ≡ open-symbol.routine → KnownBy 3 open-kinds.ps open-kinds.r open-reads.Asked open-reads.Learnt open-symbol.name
   open-known same = open-reads.known w γ open-symbol.name open-symbol.routine same (open-theorem.met (w .𝓤) (w .H) (w .𝓜) (w .𝓖) (w .𝓡))
+
+  pub open-outside-known : γ open-outside-symbol.name ≡ open-outside-symbol.routine →
+      KnownBy 4 open-outside-kinds.ps open-outside-kinds.r open-outside-reads.Asked open-outside-reads.Learnt open-outside-symbol.name
+  open-outside-known same =
+      open-outside-reads.known w γ open-outside-symbol.name open-outside-symbol.routine same (open-outside-theorem.met (w .𝓤) (w .H) (w .𝓜) (w .𝓖) (w .𝓡))
 
   pub quarter-known : γ quarter-symbol.name ≡ quarter-symbol.routine →
       KnownBy 1 quarter-kinds.ps quarter-kinds.r quarter-reads.Asked quarter-reads.Learnt quarter-symbol.name
