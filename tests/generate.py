@@ -10,6 +10,7 @@ from cases import GENERATORS, U32, U64, Case, again
 from cases.chains import chain_cases, close_cases, open_cases, quarter_cases, total_cases
 from cases.frames import draw_cases, large_draw_cases, near_draw_cases, rotate_cases, take_all_cases
 from cases.loads import load_cases
+from cases.outsides import outside_cases, outside_chain_cases
 from cases.streams import LISTING, many_draw_cases, reader_cases, stream_cases, word_cases
 from cases.samples import sample_cases
 from cases.registers import register_cases
@@ -32,6 +33,8 @@ __all__ = [
     "many_draw_cases",
     "near_draw_cases",
     "open_cases",
+    "outside_cases",
+    "outside_chain_cases",
     "quarter_cases",
     "read_all_cases",
     "reader_cases",
