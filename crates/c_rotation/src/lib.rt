@@ -1,7 +1,7 @@
-// Rotation, on a lent frame, old panel and buffer.
+// Rotation, on a lent frame, old panel, births and buffer.
 ghost use mathlib.Core.Path.{_≡_};
 ghost use Rattle.rules.specs.TakeAll.{frame};
-ghost use Rattle.rules.specs.Rotation.{rotationAnswer, rotationLeavers};
+ghost use Rattle.rules.specs.Rotation.{born, rotationAnswer, rotationLeavers};
 ghost use Rattle.c_rotation.specs.Answer.{rotatedFrom};
 
 // The answer of a rotation.
@@ -22,14 +22,17 @@ pub extern "C" fn vougecress_rotate(
     old: u32,
     panel: &[u32],
     fraction: u32,
+    size: usize,
+    rest: u64,
+    births: &[u32],
     leavers: &mut [u32],
 ) -> Rotated
     ensures { λ r.
         ⌜ r ≡ rotatedFrom (rotationAnswer (frame (now (numbers .entry)) (now (turnovers .entry)) (now (randoms .entry))) z old (now (panel .entry))
-        fraction (now (leavers .entry))) ⌝ }
+        fraction (born size rest (now (births .entry))) (now (leavers .entry))) ⌝ }
     ensures { λ _.
         ⌜ now (leavers .exit) ≡ rotationLeavers (frame (now (numbers .entry)) (now (turnovers .entry)) (now (randoms .entry))) z old (now (panel .entry))
-        fraction (now (leavers .entry)) ⌝ }
+        fraction (born size rest (now (births .entry))) (now (leavers .entry)) ⌝ }
 {
     let answer = rotation::rotate(
         numbers,
@@ -39,6 +42,9 @@ pub extern "C" fn vougecress_rotate(
         old,
         panel,
         fraction,
+        size,
+        rest,
+        births,
         leavers,
     );
     match answer {
