@@ -5,3 +5,5 @@ pub mod Chains
 pub mod Reference
 pub mod Border
 pub mod Leavers
+pub mod NoBirths
+pub mod Births
