@@ -1,7 +1,10 @@
-// Rotation, on a lent frame, old panel and buffer.
+// Rotation, by Pareto keys or by sequential Poisson keys, on a lent frame, old panel and buffer.
+use draw_key::Method;
 ghost use mathlib.Core.Path.{_≡_};
 ghost use Rattle.rules.specs.TakeAll.{frame};
-ghost use Rattle.rules.specs.Rotation.{rotationAnswer, rotationLeavers};
+ghost use Rattle.rules.specs.Rotation.{rotationAnswerBy, rotationLeaversBy, rotationAnswer, rotationLeavers};
+ghost use Rattle.rules.specs.Draw.{Method as KeyMethod};
+ghost use Rattle.rotation.specs.Answer.{answerFrom};
 ghost use Rattle.c_rotation.specs.Answer.{rotatedFrom};
 
 // The answer of a rotation.
@@ -11,6 +14,26 @@ pub struct Rotated {
     pub k: u32,
     pub start: u32,
     pub count: u64,
+}
+
+// The answer as C has it.
+fn shown(answer: rotation::Answer) -> Rotated
+    ensures { λ r. ⌜ r ≡ rotatedFrom (answerFrom answer) ⌝ }
+{
+    match answer {
+        rotation::Answer::Rotated { k, start, count } => Rotated {
+            refusal: 0,
+            k,
+            start,
+            count: count as u64,
+        },
+        rotation::Answer::Refused(why) => Rotated {
+            refusal: why.number() as u32,
+            k: 0,
+            start: 0,
+            count: 0,
+        },
+    }
 }
 
 #[no_mangle]
@@ -41,18 +64,37 @@ pub extern "C" fn vougecress_rotate(
         fraction,
         leavers,
     );
-    match answer {
-        rotation::Answer::Rotated { k, start, count } => Rotated {
-            refusal: 0,
-            k,
-            start,
-            count: count as u64,
-        },
-        rotation::Answer::Refused(why) => Rotated {
-            refusal: why.number() as u32,
-            k: 0,
-            start: 0,
-            count: 0,
-        },
-    }
+    shown(answer)
+}
+
+#[no_mangle]
+pub extern "C" fn vougecress_rotate_poisson(
+    numbers: &[u32],
+    turnovers: &[u64],
+    randoms: &[u32],
+    z: usize,
+    from: u32,
+    panel: &[u32],
+    fraction: u32,
+    leavers: &mut [u32],
+) -> Rotated
+    ensures { λ r.
+        ⌜ r ≡ rotatedFrom (rotationAnswerBy KeyMethod.sequentialPoisson (frame (now (numbers .entry)) (now (turnovers .entry)) (now (randoms .entry))) z from (now (panel .entry))
+        fraction (now (leavers .entry))) ⌝ }
+    ensures { λ _.
+        ⌜ now (leavers .exit) ≡ rotationLeaversBy KeyMethod.sequentialPoisson (frame (now (numbers .entry)) (now (turnovers .entry)) (now (randoms .entry))) z from (now (panel .entry))
+        fraction (now (leavers .entry)) ⌝ }
+{
+    let answer = rotation::rotate_by(
+        Method::SequentialPoisson,
+        numbers,
+        turnovers,
+        randoms,
+        z,
+        from,
+        panel,
+        fraction,
+        leavers,
+    );
+    shown(answer)
 }

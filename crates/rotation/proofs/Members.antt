@@ -9,7 +9,7 @@ use lib.Seq.{take-length}
 use Rattle.rules.specs.Limits.{steps}
 use Rattle.rules.specs.Selection.{count, listed}
 use Rattle.rules.specs.TakeAll.{Frame, Group, frame}
-use Rattle.rules.specs.Draw.{sampledBy}
+use Rattle.rules.specs.Draw.{Method, sampledBy}
 use Rattle.rules.specs.Rotation.{member, members, required, startAt, leaves, suffices, leastStep, leavers}
 use Rattle.selection.specs.Held.{Held}
 use Rattle.selection.proofs.Held.{held-again, held-count}
@@ -18,6 +18,7 @@ use Rattle.selection.proofs.Listed.{listed-low, listed-same}
 use Rattle.selection.proofs.Sums.{sum-same, listed-length}
 use Rattle.group.specs.Group.{marked}
 use Rattle.draw_key.specs.declared.Setting.{Setting}
+use Rattle.draw_key.specs.Methods.{methodOf}
 use Rattle.draw_key.specs.Units.{sampledOf}
 use Rattle.rotation_members.specs.Members.{memberBy}
 use Rattle.rotation_step.specs.Leaving.{under, memberLeaves, leaving, enoughLeave, firstStep}
@@ -27,12 +28,15 @@ use Rattle.rotation_leavers.specs.Leavers.{leavingUnits, unitsInOrder, numbersO
 pub record Told (ns ts rs : List ℕ) (r : Group) (panel marks gs : List ℕ) (s : Setting) (ms : List ℕ) : Type 0 where
   pub same : length ns ≡ length ts
   pub takes : (i : ℕ) → i < length ts → marked marks i ≡ r .takesAll i
-  pub sampled : (start i : ℕ) → i < length ts → sampledOf ts rs gs (under s start) i ≡ sampledBy (frame ns ts rs) r start i
+  pub sampled : (start i : ℕ) → i < length ts → sampledOf ts rs gs (under s start) i ≡ sampledBy (methodOf (s .method)) (frame ns ts rs) r start i
   pub listed-are : ms ≡ listed (memberBy ns marks panel) (λ i. i) (length ns)
 
 module _ (ns ts rs : List ℕ) (r : Group) (panel marks gs : List ℕ) (s : Setting) (ms : List ℕ) (t : Told ns ts rs r panel marks gs s ms) where
   abbrev f : Frame
   f = frame ns ts rs
+
+  abbrev m : Method
+  m = methodOf (s .method)
 
   members-are : ms ≡ listed (member f r panel) (λ i. i) (length ts)
   unfolding memberBy member
@@ -54,28 +58,28 @@ module _ (ns ts rs : List ℕ) (r : Group) (panel marks gs : List ℕ) (s : Sett
 
   -- under any start
   module _ (start : ℕ) where
-    leaves-at : (j : ℕ) → j < length ms → memberLeaves ts rs gs ms (under s start) j ≡ not (sampledBy f r start (getD ms j 0))
+    leaves-at : (j : ℕ) → j < length ms → memberLeaves ts rs gs ms (under s start) j ≡ not (sampledBy m f r start (getD ms j 0))
     unfolding memberLeaves
     leaves-at j l = ap not (t .sampled start (getD ms j 0) (member-low j l))
 
-    leaving-is : leaving ts rs gs ms (under s start) ≡ count (leaves f r panel start) (length ts)
+    leaving-is : leaving ts rs gs ms (under s start) ≡ count (leaves m f r panel start) (length ts)
     unfolding leaving leaves count
-    leaving-is = sum-same _ _ (λ j. 1) (length ms) leaves-at ∙ held-count held (λ i. not (sampledBy f r start i))
+    leaving-is = sum-same _ _ (λ j. 1) (length ms) leaves-at ∙ held-count held (λ i. not (sampledBy m f r start i))
 
-    units-are : leavingUnits ts rs gs ms (under s start) ≡ listed (leaves f r panel start) (λ i. i) (length ts)
+    units-are : leavingUnits ts rs gs ms (under s start) ≡ listed (leaves m f r panel start) (λ i. i) (length ts)
     unfolding leavingUnits leaves
-    units-are = listed-same _ _ (λ j. getD ms j 0) (length ms) leaves-at ∙ held-again held (λ i. not (sampledBy f r start i)) (λ i. i)
+    units-are = listed-same _ _ (λ j. getD ms j 0) (length ms) leaves-at ∙ held-again held (λ i. not (sampledBy m f r start i)) (λ i. i)
 
-    pub leavers-are : numbersOf ns (unitsInOrder ts rs gs ms (under s start)) ≡ leavers f r panel start
+    pub leavers-are : numbersOf ns (unitsInOrder ts rs gs ms (under s start)) ≡ leavers m f r panel start
     unfolding numbersOf unitsInOrder leavers
     leavers-are = rw units-are
 
-  suffices-is : (fraction k : ℕ) → enoughLeave ts rs gs ms s (required fraction (length ms)) k ≡ suffices f r (s .start) panel fraction k
+  suffices-is : (fraction k : ℕ) → enoughLeave ts rs gs ms s (required fraction (length ms)) k ≡ suffices m f r (s .start) panel fraction k
   unfolding enoughLeave suffices
   suffices-is fraction k = rw (leaving-is (startAt (s .start) k), members-many)
 
-  pub first-is : (fraction : ℕ) → firstStep ts rs gs ms s (required fraction (length ms)) ≡ leastStep f r (s .start) panel fraction
+  pub first-is : (fraction : ℕ) → firstStep ts rs gs ms s (required fraction (length ms)) ≡ leastStep m f r (s .start) panel fraction
   unfolding firstStep leastStep
   first-is fraction =
       let need = required fraction (length ms) in
-      least-same (enoughLeave ts rs gs ms s need) (suffices f r (s .start) panel fraction) steps 0 (suffices-is fraction)
+      least-same (enoughLeave ts rs gs ms s need) (suffices m f r (s .start) panel fraction) steps 0 (suffices-is fraction)

@@ -1,6 +1,7 @@
-// Rotation (document 01, "Rotation"): the smallest step of the start at which enough members leave the panel, and who leaves. The
+// Rotation (document 01, "Rotation"; document 02, [8]), by either key: the smallest step of the start at which enough members leave the panel, and who leaves. The
 // take-all group, the units' gaps and the members do not depend on the start and are found once; what a step does is crate `rotation_step`,
 // who leaves at the step that is found crate `rotation_leavers`.
+use draw_key::Method;
 use draw_key::Setting;
 use limits::FRACTION_SCALE;
 use limits::MOST_FRAME;
@@ -13,7 +14,8 @@ ghost use Rattle.rules.specs.Limits.{mostFrame, fractionScale};
 ghost use Rattle.rules.specs.Refusals.{_then_};
 ghost use Rattle.rules.specs.TakeAll.{frame};
 ghost use Rattle.rules.specs.Draw.{frameRefusal};
-ghost use Rattle.rules.specs.Rotation.{required, oldPanelRefusal, rotationAnswer, rotationLeavers};
+ghost use Rattle.rules.specs.Rotation.{required, oldPanelRefusal, rotationAnswerBy, rotationLeaversBy, rotationAnswer, rotationLeavers};
+ghost use Rattle.draw_key.specs.Methods.{methodOf};
 ghost use Rattle.rotation.specs.Answer.{answerFrom};
 
 pub enum Answer {
@@ -33,6 +35,7 @@ fn required(fraction: u32, members: usize) -> usize
 
 // Rotates what refusals 1 to 7 let pass, from the old start on.
 fn turn(
+    method: Method,
     numbers: &[u32],
     turnovers: &[u64],
     randoms: &[u32],
@@ -43,17 +46,18 @@ fn turn(
     leavers: &mut [u32],
 ) -> Answer
     requires { ⌜ (frameRefusal (frame (now numbers) (now turnovers) (now randoms)) z old then oldPanelRefusal (now panel) fraction (now leavers)) ≡ 0 ⌝ }
-    ensures { λ r. ⌜ answerFrom r ≡ rotationAnswer (frame (now (numbers .entry)) (now (turnovers .entry)) (now (randoms .entry))) z old (now (panel .entry)) fraction (now (leavers .entry)) ⌝ }
-    ensures { λ _. ⌜ now (leavers .exit) ≡ rotationLeavers (frame (now (numbers .entry)) (now (turnovers .entry)) (now (randoms .entry))) z old (now (panel .entry)) fraction (now (leavers .entry)) ⌝ }
+    ensures { λ r. ⌜ answerFrom r ≡ rotationAnswerBy (methodOf method) (frame (now (numbers .entry)) (now (turnovers .entry)) (now (randoms .entry))) z old (now (panel .entry)) fraction (now (leavers .entry)) ⌝ }
+    ensures { λ _. ⌜ now (leavers .exit) ≡ rotationLeaversBy (methodOf method) (frame (now (numbers .entry)) (now (turnovers .entry)) (now (randoms .entry))) z old (now (panel .entry)) fraction (now (leavers .entry)) ⌝ }
 {
     let mut marks = [0u8; MOST_FRAME];
     let g = group::find_group(turnovers, z, &mut marks);
     let mut gaps = [0u64; MOST_FRAME];
-    draw_gaps::fill(turnovers, &marks, g.n, g.rest, &mut gaps);
+    draw_gaps::fill(turnovers, &marks, method, g.n, g.rest, &mut gaps);
     let mut places = [0usize; MOST_FRAME];
     let many = rotation_members::members(numbers, &marks, panel, &mut places);
     let need = required(fraction, many);
     let s = Setting {
+        method,
         start: old,
         n: g.n,
         rest: g.rest,
@@ -80,9 +84,10 @@ fn turn(
     }
 }
 
-// Rotation: the smallest step, the new start, and the count of the leavers, whose unit numbers are written to the front of the buffer, by falling
+// Rotation by the keys of a method: the smallest step, the new start, and the count of the leavers, whose unit numbers are written to the front of the buffer, by falling
 // turnover, equal turnovers by lower number; or the lowest refusal that applies, and then the buffer is as it was.
-pub fn rotate(
+pub fn rotate_by(
+    method: Method,
     numbers: &[u32],
     turnovers: &[u64],
     randoms: &[u32],
@@ -92,9 +97,9 @@ pub fn rotate(
     fraction: u32,
     leavers: &mut [u32],
 ) -> Answer
-    ensures { λ r. ⌜ answerFrom r ≡ rotationAnswer (frame (now (numbers .entry)) (now (turnovers .entry)) (now (randoms .entry))) z old (now (panel .entry)) fraction (now (leavers .entry)) ⌝ }
+    ensures { λ r. ⌜ answerFrom r ≡ rotationAnswerBy (methodOf method) (frame (now (numbers .entry)) (now (turnovers .entry)) (now (randoms .entry))) z old (now (panel .entry)) fraction (now (leavers .entry)) ⌝ }
     ensures { λ _.
-        ⌜ now (leavers .exit) ≡ rotationLeavers (frame (now (numbers .entry)) (now (turnovers .entry)) (now (randoms .entry))) z old
+        ⌜ now (leavers .exit) ≡ rotationLeaversBy (methodOf method) (frame (now (numbers .entry)) (now (turnovers .entry)) (now (randoms .entry))) z old
         (now (panel .entry)) fraction (now (leavers .entry)) ⌝ }
 {
     let verdict = rotation_judge::judge(
@@ -110,6 +115,7 @@ pub fn rotate(
     match verdict {
         Verdict::Refused(why) => Answer::Refused(why),
         Verdict::Accepted => turn(
+            method,
             numbers,
             turnovers,
             randoms,
@@ -120,4 +126,33 @@ pub fn rotate(
             leavers,
         ),
     }
+}
+
+// Rotation by Pareto keys.
+pub fn rotate(
+    numbers: &[u32],
+    turnovers: &[u64],
+    randoms: &[u32],
+    z: usize,
+    old: u32,
+    panel: &[u32],
+    fraction: u32,
+    leavers: &mut [u32],
+) -> Answer
+    ensures { λ r. ⌜ answerFrom r ≡ rotationAnswer (frame (now (numbers .entry)) (now (turnovers .entry)) (now (randoms .entry))) z old (now (panel .entry)) fraction (now (leavers .entry)) ⌝ }
+    ensures { λ _.
+        ⌜ now (leavers .exit) ≡ rotationLeavers (frame (now (numbers .entry)) (now (turnovers .entry)) (now (randoms .entry))) z old
+        (now (panel .entry)) fraction (now (leavers .entry)) ⌝ }
+{
+    rotate_by(
+        Method::Pareto,
+        numbers,
+        turnovers,
+        randoms,
+        z,
+        old,
+        panel,
+        fraction,
+        leavers,
+    )
 }

@@ -10,9 +10,9 @@ use Rattle.rules.specs.Refusals.{Judged, refuse, _then_}
 use Rattle.rules.specs.Lists.{sum, products, scaled, anyOf, anyPair, risesFrom, rising, elem}
 use Rattle.rules.specs.Selection.{sumOf, count, byKey, rank, firsts, listed, leastFrom}
 use Rattle.rules.specs.TakeAll.{Frame, Taken, frame, moreTurnover, larger, largest, restWithout, reachesRest, fits, takeAllSize, restTurnover, takeAllGroup, baseWeight, badTurnovers, badSize, badCount, takeAllRefusal, takeAllAnswer, takeAllMarks}
-use Rattle.rules.specs.Draw.{Drawn, shifted, keyNumerator, keyDenominator, fractionBelow, keyBelow, sampledBy, drawnBy, panelNumbers, panelWeights, badLists, badRandom, frameRefusal, drawRefusal, drawAnswer, drawNumbers, drawWeights}
+use Rattle.rules.specs.Draw.{Drawn, shifted, keyNumerator, keyDenominator, fractionBelow, keyBelow, sampledBy, drawnBy, panelNumbers, panelWeights, badLists, badRandom, frameRefusal, drawRefusal, drawAnswer, drawNumbersBy, drawWeightsBy, drawNumbers, drawWeights}
 use Rattle.rules.specs.Order.{put, ordered}
-use Rattle.rules.specs.Rotation.{Rotated, member, members, required, startAt, leaves, suffices, leastStep, leavers, badOldPanel, oldPanelRefusal, rotationRefusal, rotationAnswer, rotationLeavers}
+use Rattle.rules.specs.Rotation.{Rotated, member, members, required, startAt, leaves, suffices, leastStep, leavers, badOldPanel, oldPanelRefusal, rotationRefusal, rotationAnswerBy, rotationLeaversBy, rotationAnswer, rotationLeavers}
 use Rattle.rules.specs.Chain.{Chain, Call, held, badIndex, badRelative, badWeight, badUnits, badOpenLists, badBase, badShares, openInputRefusal, weightRefusal, openRefusal, openRecord, link, figureAt, broken, callInputRefusal, figureRefusal, callRefusal, callAnswer}
 use Rattle.rules.specs.Direct.{Direct, exactOpen, exactMoved, directOpen, directAfter, numerator, denominator}
 use Rattle.rules.specs.Total.{badSectors, totalOf, totalAnswer}
@@ -129,8 +129,8 @@ pub reference-table : ReferenceTable
 unfolding _or_ _and_ outside refuse _then_ sum products scaled anyOf anyPair risesFrom rising elem
     sumOf count byKey rank firsts listed leastFrom put ordered
     moreTurnover larger largest restWithout reachesRest fits takeAllSize restTurnover takeAllGroup baseWeight badTurnovers badSize badCount takeAllRefusal takeAllAnswer takeAllMarks
-    shifted keyNumerator keyDenominator fractionBelow keyBelow sampledBy drawnBy panelNumbers panelWeights badLists badRandom frameRefusal drawRefusal drawAnswer drawNumbers drawWeights
-    member members required startAt leaves suffices leastStep leavers badOldPanel oldPanelRefusal rotationRefusal rotationAnswer rotationLeavers
+    shifted keyNumerator keyDenominator fractionBelow keyBelow sampledBy drawnBy panelNumbers panelWeights badLists badRandom frameRefusal drawRefusal drawAnswer drawNumbersBy drawWeightsBy
+    member members required startAt leaves suffices leastStep leavers badOldPanel oldPanelRefusal rotationRefusal rotationAnswerBy rotationLeaversBy
     held badIndex badRelative badWeight badUnits badOpenLists badBase badShares openInputRefusal weightRefusal openRefusal openRecord link figureAt broken callInputRefusal figureRefusal callRefusal callAnswer
     exactOpen exactMoved directOpen numerator denominator badSectors totalOf totalAnswer
     bigEndian operandsOf widthOf commandOf readingRefusal reading restOf digitsOn decimalOn lineOf lineOf2 panelLines

@@ -25,10 +25,10 @@ use Rattle.rotation.proofs.turn.Tie as tie
 -- what refusals 1 to 7 leave of the arguments
 module _ (s : tie.Start) where
   whole : Accepted (frame (s .args .numbers .now) (s .args .turnovers .now) (s .args .randoms .now)) (s .args .z) (s .args .old)
-  whole = frame-ok _ _ _ _ _ _ _ _ (s .pre)
+  whole = frame-ok (s .args .method) _ _ _ _ _ _ _ _ (s .pre)
 
   old : OldAccepted (s .args .panel .now) (s .args .fraction) (s .args .leavers .now)
-  old = old-ok _ _ _ _ _ _ _ _ (s .pre)
+  old = old-ok (s .args .method) _ _ _ _ _ _ _ _ (s .pre)
 
 -- there is a mark for each unit
 marks-room :
@@ -74,9 +74,9 @@ module _ (c : tie.After-members) where
   asked :
       let a = entry .args in
       let g = found .find-group .result in
-      Searched (a .turnovers .now) (a .randoms .now) (filled .fill .last .1 .1 .1 .1 .0) units
-      (record { start = a .old; n = g .n; rest = g .rest }) (a .z)
-  asked = searched _ _ _ _ _ _ _ _ (entry .pre) _ _ (found .find-group .ensures .0) _ (filled .fill .ensures) _ units-are
+      Searched (a .turnovers .now) (a .randoms .now) (filled .fill .last .1 .1 .1 .1 .1 .0) units
+      (record { method = a .method; start = a .old; n = g .n; rest = g .rest }) (a .z)
+  asked = searched (entry .args .method) _ _ _ _ _ _ _ _ (entry .pre) _ _ (found .find-group .ensures .0) _ (filled .fill .ensures) _ units-are
 
 -- once it is known how many must leave
 need-is : (c : tie.After-required) → c .required .result ≡ required (entry (c .before .before) .args .fraction) (length (units (c .before .before)))
@@ -101,7 +101,7 @@ returns c =
     let k = c .before in
     let n = k .before .before .before in
     let m = n .before .before in
-    turn-refused _ _ _ _ _ _ _ _ (entry m .pre) _ _ (found m .find-group .ensures .0) _ (filled m .fill .ensures) _ (units-are m) _ _
+    turn-refused (entry m .args .method) _ _ _ _ _ _ _ _ (entry m .pre) _ _ (found m .find-group .ensures .0) _ (filled m .fill .ensures) _ (units-are m) _ _
     (k .first-step .ensures) (need-is n) (c .if1 .taken)
 
 write-requires : tie.Need-write-requires
@@ -121,7 +121,7 @@ returns-2 c =
     let k = at .before .before in
     let n = k .before .before .before in
     let m = n .before .before in
-    turn-given _ _ _ _ _ _ _ _ (entry m .pre) _ _ (found m .find-group .ensures .0) _ (filled m .fill .ensures) _ (units-are m) _ _
+    turn-given (entry m .args .method) _ _ _ _ _ _ _ _ (entry m .pre) _ _ (found m .find-group .ensures .0) _ (filled m .fill .ensures) _ (units-are m) _ _
     (k .first-step .ensures) (need-is n) _ (at .setting-at .ensures) (at .before .if1 .left) _ (w .write .ensures .0) _ (w .write .ensures .1)
 
 pub turn-spec : {M : Type 1} → statement M
