@@ -1,4 +1,4 @@
-// Document 01, "Frame and weights", "Draw" and "Rotation", and document 02, [14], in plain C++.
+// Document 01, "Frame and weights", "Draw" and "Rotation", and document 02, [8] and [14], in plain C++.
 #include "baseline.hpp"
 
 #include <algorithm>
@@ -68,52 +68,78 @@ Group take_all(const std::vector<uint64_t>& turnovers, size_t z) {
     return g;
 }
 
-// A unit outside take-all. The gap X − n × turnover does not depend on the start.
-struct Candidate {
+uint64_t shifted(uint32_t random, uint32_t start) {
+    return random < start ? random + kRange - start : random - start;
+}
+
+// A unit outside take-all and its Pareto key. The gap X − n × turnover does not depend on the start.
+struct Pareto {
     uint64_t num;
     uint64_t den;
     uint64_t gap;
     uint64_t turnover;
     uint32_t random;
     uint32_t unit;
+
+    static Pareto of(const Group& g, uint64_t t, uint32_t random, uint32_t unit) { return {0, 0, g.rest - g.n * t, t, random, unit}; }
+
+    void move_to(uint32_t start) {
+        const uint64_t r = shifted(random, start);
+        num = r * gap;
+        den = (kRange - r) * turnover;
+    }
+
+    bool operator<(const Pareto& other) const {
+        const auto left = static_cast<unsigned __int128>(num) * other.den;
+        const auto right = static_cast<unsigned __int128>(other.num) * den;
+        return left != right ? left < right : unit < other.unit;
+    }
 };
 
+// The same with its sequential Poisson key, r over turnover: a cross product is below 10^18 and fits 64 bits.
+struct Poisson {
+    uint64_t r;
+    uint64_t turnover;
+    uint32_t random;
+    uint32_t unit;
+
+    static Poisson of(const Group&, uint64_t t, uint32_t random, uint32_t unit) { return {0, t, random, unit}; }
+
+    void move_to(uint32_t start) { r = shifted(random, start); }
+
+    bool operator<(const Poisson& other) const {
+        const uint64_t left = r * other.turnover;
+        const uint64_t right = other.r * turnover;
+        return left != right ? left < right : unit < other.unit;
+    }
+};
+
+template <class Candidate>
 std::vector<Candidate> candidates(const Frame& f, const Group& g) {
     std::vector<Candidate> all;
     all.reserve(f.size());
     for (uint32_t i = 0; i < f.size(); i++) {
-        if (g.marks[i]) continue;
-        const uint64_t t = f.turnovers[i];
-        all.push_back({0, 0, g.rest - g.n * t, t, f.randoms[i], i});
+        if (!g.marks[i]) all.push_back(Candidate::of(g, f.turnovers[i], f.randoms[i], i));
     }
     return all;
 }
 
 // Brings the n with the smallest keys to the front; equal keys by lower unit number.
+template <class Candidate>
 void select(std::vector<Candidate>& all, size_t n, uint32_t start) {
-    for (Candidate& c : all) {
-        const uint64_t r = c.random < start ? c.random + kRange - start : c.random - start;
-        c.num = r * c.gap;
-        c.den = (kRange - r) * c.turnover;
-    }
-    if (n == all.size()) return;
-    std::nth_element(all.begin(), all.begin() + n, all.end(), [](const Candidate& a, const Candidate& b) {
-        const auto left = static_cast<unsigned __int128>(a.num) * b.den;
-        const auto right = static_cast<unsigned __int128>(b.num) * a.den;
-        return left != right ? left < right : a.unit < b.unit;
-    });
+    for (Candidate& c : all) c.move_to(start);
+    if (n < all.size()) std::nth_element(all.begin(), all.begin() + n, all.end());
 }
 
-}  // namespace
-
-Panel baseline::draw(const Frame& f, size_t z, uint32_t start) {
+template <class Candidate>
+Panel draw_by(const Frame& f, size_t z, uint32_t start) {
     Panel panel;
     panel.refusal = judge(f, z, start);
     if (panel.refusal != 0) return panel;
     const Group g = take_all(f.turnovers, z);
     std::vector<uint8_t> drawn = g.marks;
     if (g.n > 0) {
-        std::vector<Candidate> all = candidates(f, g);
+        std::vector<Candidate> all = candidates<Candidate>(f, g);
         select(all, g.n, start);
         for (size_t k = 0; k < g.n; k++) drawn[all[k].unit] = 1;
     }
@@ -127,7 +153,8 @@ Panel baseline::draw(const Frame& f, size_t z, uint32_t start) {
     return panel;
 }
 
-Turn baseline::rotate(const Frame& f, size_t z, uint32_t start, const std::vector<uint32_t>& old_panel, uint32_t fraction) {
+template <class Candidate>
+Turn rotate_by(const Frame& f, size_t z, uint32_t start, const std::vector<uint32_t>& old_panel, uint32_t fraction) {
     Turn turn;
     turn.refusal = judge(f, z, start);
     if (turn.refusal != 0) return turn;
@@ -146,7 +173,7 @@ Turn baseline::rotate(const Frame& f, size_t z, uint32_t start, const std::vecto
     }
     const size_t wanted = (fraction * members.size() + 999) / 1000;
     std::vector<Candidate> all;
-    if (g.n > 0) all = candidates(f, g);
+    if (g.n > 0) all = candidates<Candidate>(f, g);
     std::vector<uint8_t> sampled(f.size());
     for (uint32_t step = 0; step < kSteps; step++) {
         const uint32_t at = (start + 1000 * step) % kRange;
@@ -168,6 +195,24 @@ Turn baseline::rotate(const Frame& f, size_t z, uint32_t start, const std::vecto
     }
     turn.refusal = 8;
     return turn;
+}
+
+}  // namespace
+
+Panel baseline::draw(const Frame& f, size_t z, uint32_t start) {
+    return draw_by<Pareto>(f, z, start);
+}
+
+Turn baseline::rotate(const Frame& f, size_t z, uint32_t start, const std::vector<uint32_t>& old_panel, uint32_t fraction) {
+    return rotate_by<Pareto>(f, z, start, old_panel, fraction);
+}
+
+Panel baseline::draw_poisson(const Frame& f, size_t z, uint32_t start) {
+    return draw_by<Poisson>(f, z, start);
+}
+
+Turn baseline::rotate_poisson(const Frame& f, size_t z, uint32_t start, const std::vector<uint32_t>& old_panel, uint32_t fraction) {
+    return rotate_by<Poisson>(f, z, start, old_panel, fraction);
 }
 
 // ---- document 02, [14]: registers as comma lines

@@ -39,6 +39,8 @@ struct Import {
 namespace baseline {
 Panel draw(const Frame& frame, size_t z, uint32_t start);
 Turn rotate(const Frame& frame, size_t z, uint32_t start, const std::vector<uint32_t>& old_panel, uint32_t fraction);
+Panel draw_poisson(const Frame& frame, size_t z, uint32_t start);
+Turn rotate_poisson(const Frame& frame, size_t z, uint32_t start, const std::vector<uint32_t>& old_panel, uint32_t fraction);
 Import import_lines(const std::string& text, size_t places);
 Import import_units(const std::string& text, size_t places);
 }

@@ -1,5 +1,5 @@
 // Times the proved draw, rotation and import against the C++ ones, by turns in one run, and compares the answers.
-// `bench check` runs document 01's cases K1 to K6 and K9 instead.
+// `bench check` runs document 01's cases K1 to K6 and K9, and a sequential Poisson draw and rotation, instead.
 #include <algorithm>
 #include <chrono>
 #include <cstdio>
@@ -17,12 +17,15 @@ struct Engine {
     const char* name;
     Panel (*draw)(const Frame&, size_t, uint32_t);
     Turn (*rotate)(const Frame&, size_t, uint32_t, const std::vector<uint32_t>&, uint32_t);
+    Panel (*draw_poisson)(const Frame&, size_t, uint32_t);
+    Turn (*rotate_poisson)(const Frame&, size_t, uint32_t, const std::vector<uint32_t>&, uint32_t);
     Import (*import_lines)(const std::string&, size_t);
     Import (*import_units)(const std::string&, size_t);
 };
 
-const Engine engines[2] = {{"c++", baseline::draw, baseline::rotate, baseline::import_lines, baseline::import_units},
-                           {"rattle", proved::draw, proved::rotate, proved::import_lines, proved::import_units}};
+const Engine engines[2] = {
+    {"c++", baseline::draw, baseline::rotate, baseline::draw_poisson, baseline::rotate_poisson, baseline::import_lines, baseline::import_units},
+    {"rattle", proved::draw, proved::rotate, proved::draw_poisson, proved::rotate_poisson, proved::import_lines, proved::import_units}};
 
 // ---- what two implementations must agree on, as one number
 
@@ -88,7 +91,7 @@ void compare(const std::string& what, int runs, Call call) {
 
 std::string row(const char* what, Shape shape, uint32_t units, size_t z) {
     char text[80];
-    std::snprintf(text, sizeof text, "%-7s %-8s %6u units z = %3zu", what, name(shape), units, z);
+    std::snprintf(text, sizeof text, "%-14s %-8s %6u units z = %3zu", what, name(shape), units, z);
     return text;
 }
 
@@ -123,6 +126,7 @@ void measure() {
             for (Shape shape : kShapes) {
                 const Frame frame = make_frame(shape, units, z, 20160018);
                 compare(row("draw", shape, units, z), 101, [&](const Engine& engine) { return engine.draw(frame, z, 123456); });
+                compare(row("draw poisson", shape, units, z), 101, [&](const Engine& engine) { return engine.draw_poisson(frame, z, 123456); });
             }
     // Half of the members leave soon; all of a steady panel never do, and every one of the 1,000 starts is tried.
     constexpr size_t z = 100;
@@ -131,6 +135,9 @@ void measure() {
         const std::vector<uint32_t> old_panel = baseline::draw(frame, z, 0).numbers;
         const uint32_t fraction = shape == Shape::Steady ? 1000 : 500;
         compare(row("rotate", shape, 16384, z), 3, [&](const Engine& engine) { return engine.rotate(frame, z, 0, old_panel, fraction); });
+        const std::vector<uint32_t> other_panel = baseline::draw_poisson(frame, z, 0).numbers;
+        compare(row("rotate poisson", shape, 16384, z), 3,
+                [&](const Engine& engine) { return engine.rotate_poisson(frame, z, 0, other_panel, fraction); });
     }
     measure_import();
 }
@@ -163,6 +170,9 @@ void check(const Engine& engine) {
     expect(engine.draw(a, 3, k6.start).numbers == Numbers{11, 12, 13}, engine, "K6 new panel");
     const Frame tie = {{1, 2, 3}, {10, 10, 10}, {500000, 500000, 500000}};
     expect(engine.draw(tie, 1, 0).numbers == Numbers{1}, engine, "K9");
+    const Frame four = {{1, 2, 3, 4}, {50, 20, 50, 20}, {400000, 700000, 0, 100000}};
+    expect(engine.draw_poisson(four, 2, 0).numbers == Numbers{3, 4}, engine, "the sequential Poisson draw");
+    expect(engine.rotate_poisson(four, 2, 0, {1, 3}, 500).leavers == Numbers{1}, engine, "the sequential Poisson rotation");
 }
 
 }  // namespace

@@ -185,6 +185,18 @@ struct vougecress_drawn vougecress_draw(const uint32_t *numbers, size_t numbers_
                                         uint32_t *panel, size_t panel_count,
                                         uint64_t *weights, size_t weights_count);
 
+/*
+ * The same draw by sequential Poisson sampling: the n smallest keys r over turnover are sampled, equal keys by lower unit
+ * number; take-all, n, X, the weights and the refusals are those of vougecress_draw. Which draw a panel comes from is not
+ * seen from it: rotate it by the function of the same method.
+ */
+struct vougecress_drawn vougecress_draw_poisson(const uint32_t *numbers, size_t numbers_count,
+                                                const uint64_t *turnovers, size_t turnovers_count,
+                                                const uint32_t *randoms, size_t randoms_count,
+                                                size_t z, uint32_t start,
+                                                uint32_t *panel, size_t panel_count,
+                                                uint64_t *weights, size_t weights_count);
+
 /* ---- Rotation ("Rotation") */
 struct vougecress_rotated {
     uint32_t refusal;
@@ -205,6 +217,15 @@ struct vougecress_rotated vougecress_rotate(const uint32_t *numbers, size_t numb
                                             const uint32_t *old_panel, size_t old_panel_count,
                                             uint32_t fraction,
                                             uint32_t *leavers, size_t leavers_count);
+
+/* The same rotation by sequential Poisson keys: a leaver is a member that vougecress_draw_poisson does not sample. */
+struct vougecress_rotated vougecress_rotate_poisson(const uint32_t *numbers, size_t numbers_count,
+                                                    const uint64_t *turnovers, size_t turnovers_count,
+                                                    const uint32_t *randoms, size_t randoms_count,
+                                                    size_t z, uint32_t old_start,
+                                                    const uint32_t *old_panel, size_t old_panel_count,
+                                                    uint32_t fraction,
+                                                    uint32_t *leavers, size_t leavers_count);
 
 /* ---- Total ("Total"): shares in millionths that add to 1,000,000, and an index a sector. Refusal 14. */
 struct vougecress_figure vougecress_total(const uint32_t *shares, size_t shares_count,

@@ -124,6 +124,20 @@ def test_write_stream(t):
     t.check(ran("examples/write_stream.py")[0] == 2, "wrong use")
 
 
+def test_methods(t):
+    """The worked panels of document 02, [8], by each method, as the example prints them and as README shows them."""
+    library.built()
+    lists = ([1, 2, 3, 4], [50, 20, 50, 20], [400_000, 700_000, 0, 100_000])
+    wanted = ""
+    for method, key in (("Pareto", frame.pareto_key), ("sequential Poisson", frame.poisson_key)):
+        drawn, panel, weights = frame.draw(*lists, 2, 0, [0] * 2, [0] * 2, key=key)
+        units, weights = (" ".join(map(str, values)) for values in (panel, weights))
+        wanted += f"{method}: n = {drawn.n}, X = {drawn.X}, units {units}, weights {weights}\n"
+    done = subprocess.run([sys.executable, TOP / "examples" / "methods.py"], capture_output=True, text=True)
+    t.check((done.returncode, done.stdout) == (0, wanted), "a panel by each method", done)
+    t.check(wanted in (TOP / "README.md").read_text(), "README.md shows them", wanted)
+
+
 def test_leavers(t):
     """The worked leavers of document 02, [1], as the example prints them and as README shows them."""
     library.built()

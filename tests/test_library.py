@@ -13,6 +13,8 @@ REFUSALS = {
     "take_all_cases": {1, 3, 5, 6},
     "draw_cases": {1, 2, 3, 4, 5, 6},
     "rotate_cases": {1, 2, 3, 4, 5, 6, 7, 8},
+    "poisson_draw_cases": {1, 2, 3, 4, 5, 6},
+    "poisson_rotate_cases": {1, 2, 3, 4, 5, 6, 7, 8},
     "open_cases": {9, 10, 11, 12, 13, 21, 22},
     "quarter_cases": {9, 13, 19, 23, 24},
     "close_cases": {9, 13, 19, 21, 22, 23, 24},
@@ -125,6 +127,52 @@ def test_leavers_are_not_drawn(t):
         _, panel, _ = library.draw(*lists, data["z"], answer.new_start, room, room)
         gone = {n for n in data["old_panel"] if n in data["numbers"]} - set(panel)
         t.check(gone == set(buffer[: answer.count]), "rotate: the new panel lacks exactly the leavers", repeat=case)
+
+
+def poisson(entry, data):
+    """The independent answer of an entry by sequential Poisson keys."""
+    return entry(**data, key=frame.poisson_key)
+
+
+def test_poisson_draw(t):
+    """Sequential Poisson draws; also from the large frames and those that the search among the smallest keys could stumble on."""
+    compared(t, "poisson_draw_cases", 600, 20_000, lambda d: library.draw_poisson(**d), lambda d: poisson(frame.draw, d))
+    for name, short, long in (("large_draw_cases", 4, 60), ("near_draw_cases", 2, 80)):
+        for case in generate.GENERATORS[name](t.seed + 1, t.count(short, long)):
+            expected = poisson(frame.draw, case.data)
+            t.check(library.draw_poisson(**case.data) == expected, f"{name}: the library draws the same panel", repeat=case.what)
+
+
+def test_poisson_rotate(t):
+    compared(t, "poisson_rotate_cases", 150, 4_000, lambda d: library.rotate_poisson(**d), lambda d: poisson(frame.rotate, d))
+    for what, data in near_rotations(t.seed + 1, t.count(1, 12)):
+        t.check(library.rotate_poisson(**data) == poisson(frame.rotate, data), "near keys: the library rotates alike", repeat=what)
+
+
+def test_methods_differ(t):
+    """Document 02, [8], worked: each method draws and rotates by its own key."""
+    four = {"numbers": [1, 2, 3, 4], "turnovers": [50, 20, 50, 20], "randoms": [400_000, 700_000, 0, 100_000], "z": 2}
+    for entry, panel in ((library.draw, [1, 3]), (library.draw_poisson, [3, 4])):
+        told = entry(**four, start=0, out_numbers=[0, 0, 7], out_weights=[0, 0, 8])
+        t.check(told == (frame.Drawn(2, 140), panel + [7], [140, 140, 8]), "the worked draw", repeat=told)
+    for entry, k, leaver in ((library.rotate, 1, 3), (library.rotate_poisson, 0, 1)):
+        told = entry(**four, old_start=0, old_panel=[1, 3], f=500, out_leavers=[0, 7])
+        t.check(told == (frame.Rotated(k, 1_000 * k, 1), [leaver, 7]), "the worked rotation", repeat=told)
+
+
+def test_poisson_chain(t):
+    """A chain opened with the weights of a sequential Poisson draw: every figure within the bound of the index reckoned from those weights."""
+    figures = 0
+    for case in generate.poisson_draw_cases(t.seed + 2, t.count(60, 2_000)):
+        answer, _, weights = library.draw_poisson(**case.data)
+        if isinstance(answer, Refused):
+            continue
+        W = weights[: case.data["z"]]
+        g, a = [10_000] * len(W), [100_000 + i % 7 for i in range(len(W))]
+        calls = [("quarter", [99_000 + 13 * i for i in range(len(W))]), ("close", [101_000 - 7 * i for i in range(len(W))])] * 2
+        data = {"W": W, "g": g, "a": a, "start": 10**9, "calls": calls}
+        figures += follow(t, case._replace(data=data))[0]
+    t.check(figures > 100, "many figures were compared", repeat=figures)
 
 
 def test_open(t):

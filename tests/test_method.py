@@ -103,38 +103,51 @@ class TakeAll(Example):
 class Draw(Example):
     """numbers, turnovers, randoms, z, start, panel, weights"""
 
+    key = staticmethod(frame.pareto_key)
+    ours = staticmethod(library.draw)
+
     def reckon(self):
         register = self.lists("numbers", "turnovers", "randoms")
         z, start = self.one("z"), self.one("start")
-        expected = frame.draw(*register, z, start, *self.lists("panel", "weights"))
-        self.same(library.draw(*register, z, start, *self.lists("panel", "weights")), expected)
+        expected = frame.draw(*register, z, start, *self.lists("panel", "weights"), key=self.key)
+        self.same(self.ours(*register, z, start, *self.lists("panel", "weights")), expected)
         answer, panel, weights = expected
         refused = isinstance(answer, Refused)
         buffers = facts_of(panel=panel, weights=weights)
         self.answers(answer, *buffers, **({} if refused else {"n": answer.n, "X": answer.X}))
-        self.facts = [] if refused else keys(*register, start, frame.take_all(register[1], z))
+        self.facts = [] if refused else keys(*register, start, frame.take_all(register[1], z), self.key)
 
 
-def keys(numbers, turnovers, randoms, start, stratum):
+class PoissonDraw(Draw):
+    """numbers, turnovers, randoms, z, start, panel, weights"""
+
+    key = staticmethod(frame.poisson_key)
+    ours = staticmethod(library.draw_poisson)
+
+
+def keys(numbers, turnovers, randoms, start, stratum, key):
     """A line for each unit: that it is take-all, or its shifted number and its key."""
     for place, number in enumerate(numbers):
         if place in stratum.group:
             yield f"unit {number}: take-all"
         else:
             r = frame.shifted(randoms[place], start)
-            yield f"unit {number}: r {r}, key {frame.key(r, turnovers[place], stratum.n, stratum.X)}"
+            yield f"unit {number}: r {r}, key {key(r, turnovers[place], stratum.n, stratum.X)}"
 
 
 class Rotate(Example):
     """numbers, turnovers, randoms, z, start, old, f, leavers"""
+
+    key = staticmethod(frame.pareto_key)
+    ours = staticmethod(library.rotate)
 
     def reckon(self):
         register = self.lists("numbers", "turnovers", "randoms")
         numbers, turnovers, _ = register
         z, start, f = self.one("z"), self.one("start"), self.one("f")
         old, before = self.lists("old", "leavers")
-        answer, after = frame.rotate(*register, z, start, old, f, before)
-        self.same(library.rotate(*register, z, start, old, f, before), (answer, after))
+        answer, after = frame.rotate(*register, z, start, old, f, before, key=self.key)
+        self.same(self.ours(*register, z, start, old, f, before), (answer, after))
         if isinstance(answer, Refused):
             self.answers(answer, said("leavers", after))
         else:
@@ -145,12 +158,18 @@ class Rotate(Example):
             self.facts = facts_of(members=members, required=frame.required_leavers(f, len(members)))
             self.facts += [self.step(register, start, members, stratum, k) for k in range(frame.LAST_STEP + 1)]
 
-    @staticmethod
-    def step(register, start, members, stratum, k):
+    def step(self, register, start, members, stratum, k):
         new = (start + frame.STEP * k) % frame.CIRCLE
-        sampled = sorted(register[0][i] for i in frame.sampled(*register, new, stratum))
+        sampled = sorted(register[0][i] for i in frame.sampled(*register, new, stratum, self.key))
         leavers = [number for number in members if number not in sampled]
         return f"step {k}: start {new}, {said('sampled', sampled)}, {said('leave', leavers)}"
+
+
+class PoissonRotate(Rotate):
+    """numbers, turnovers, randoms, z, start, old, f, leavers"""
+
+    key = staticmethod(frame.poisson_key)
+    ours = staticmethod(library.rotate_poisson)
 
 
 class Chain(Example):
@@ -330,6 +349,8 @@ KINDS = {
     "take-all": TakeAll,
     "draw": Draw,
     "rotate": Rotate,
+    "draw-poisson": PoissonDraw,
+    "rotate-poisson": PoissonRotate,
     "chain": Chain,
     "total": Total,
     "sample": Sample,

@@ -10,7 +10,7 @@ use mathlib.Core.List.{List}
 use lib.ListN.{length, getD}
 use borrow.Author.Tests.{ltb-true}
 use Rattle.rules.specs.Limits.{randomRange}
-use Rattle.rules.specs.Selection.{byKey, firsts}
+use Rattle.rules.specs.Selection.{firsts}
 use Rattle.rules.specs.TakeAll.{Frame, Group, turnover}
 use Rattle.rules.specs.Draw.{shifted, shiftedOf, keyNumerator, keyDenominator, fractionBelow, keyBelow, Method as RulesMethod}
 use Rattle.rules.proofs.Tests.{and-off, by-test, by-order, not-both, must-hold}

@@ -1,5 +1,5 @@
--- The keys of a frame's units from their gaps, and who has the n smallest. A gap is X − n × turnover, or X by sequential Poisson: the part of a key that no start changes; a pass over
--- many starts computes it once a unit. A unit with the gap 0 has no key: such are the take-all units. Everything from here to the panel is said in these words.
+-- The keys of a frame's units from their gaps, and who has the n smallest. A gap is X − n × turnover, or X by sequential Poisson: the part of a key that no
+-- start changes; a pass over many starts computes it once a unit. A unit with the gap 0 has no key: such are the take-all units. Everything from here to the panel is said in these words.
 use Prim.Native.Nat.{ℕ, _*_, _≤_, _<_}
 use mathlib.Core.Bool.{Bool, not}
 use mathlib.Core.Path.{_≡_}
