@@ -17,12 +17,12 @@ inline Panel draw(const Frame& frame, size_t z, uint32_t start) {
     return p;
 }
 
-inline Turn rotate(const Frame& frame, size_t z, uint32_t start, const std::vector<uint32_t>& old_panel, uint32_t fraction) {
+inline Turn rotate(const Frame& frame, size_t z, uint32_t start, const std::vector<uint32_t>& old_panel, uint32_t fraction, const Births& births) {
     Turn t;
-    t.leavers.resize(old_panel.size());
+    t.leavers.resize(old_panel.size() + births.units.size());
     const vougecress_rotated answer = vougecress_rotate(frame.numbers.data(), frame.numbers.size(), frame.turnovers.data(), frame.turnovers.size(),
                                                         frame.randoms.data(), frame.randoms.size(), z, start, old_panel.data(), old_panel.size(),
-                                                        fraction, t.leavers.data(), t.leavers.size());
+                                                        fraction, births.n, births.rest, births.units.data(), births.units.size(), t.leavers.data(), t.leavers.size());
     t.refusal = static_cast<int>(answer.refusal);
     t.step = answer.k;
     t.start = answer.start;
