@@ -22,6 +22,11 @@ module _ (s : tie.Start) where
 mul-reach : tie.Need-mul-reach
 mul-reach c = omega (arith, reach-fits _ _ _ (ok c) (c .pre .1 .0))
 
+returns-2 : tie.Need-returns-2
+returns-2 c =
+    let s = c .before .before .before .before .before in
+    rw (c .before .before .shift .ensures) (compared _ _ _ (ok s) (s .pre .1 .0) _)
+
 -- below X', which is at most 10^12
 mul-result-2 : tie.Need-mul-result-2
 mul-result-2 c =
@@ -37,11 +42,6 @@ mul-result : tie.Need-mul-result
 mul-result c =
     let s = c .before .before .before .before .before in
     rw (c .before .before .shift .ensures) (omega (arith, left-fits _ _ _ (ok s) (s .pre .1 .0) _ (low s)))
-
-returns-2 : tie.Need-returns-2
-returns-2 c =
-    let s = c .before .before .before .before .before in
-    rw (c .before .before .shift .ensures) (compared _ _ _ (ok s) (s .pre .1 .0) _)
 
 pub joins-spec : {M : Type 1} → statement M
 joins-spec =
