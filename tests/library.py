@@ -12,7 +12,7 @@ from functools import cache
 from pathlib import Path
 
 from independent import Refused
-from independent.chain import Figure, Record, Total
+from independent.chain import Figure, Record, Stopped, Total, Year
 from independent.frame import Drawn, Rotated, Taken
 from independent.sample import Shared
 from independent.register import BadLine

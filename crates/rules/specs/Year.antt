@@ -25,7 +25,7 @@ figuresOf r (call ∷ calls) = stays (callRefusal r call) [] (figureOf r (relati
 -- the calls that are made: those, and the refused one
 unfoldable pub upTo : Chain → List Call → List Call
 upTo r [] = []
-upTo r (call ∷ calls) = call ∷ upTo (after r call) calls
+upTo r (call ∷ calls) = call ∷ stays (callRefusal r call) [] (upTo (after r call) calls)
 
 -- the record after calls that are all made
 unfoldable pub afterAll : Chain → List Call → Chain
