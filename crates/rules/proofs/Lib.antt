@@ -4,4 +4,5 @@ pub mod Lists
 pub mod Chains
 pub mod Reference
 pub mod Border
+pub mod Years
 pub mod Leavers
