@@ -3,8 +3,8 @@
  *
  * Lists are lent for the length of a call: a pointer and a count of elements. A call reads its input lists and writes only
  * what is said below. Every function takes any list and any number. It answers a result, with `refusal` 0, or one refusal
- * number of document 01, with every other field of the answer 0 (34 alone comes with an offset); after a refusal every
- * lent list is as it was.
+ * number of document 01, with every other field of the answer 0 (34 alone comes with an offset, and a year's refusal with
+ * the count of its calls); after a refusal every lent list is as it was, but for the figures of a year's accepted calls.
  * A null pointer is allowed where the count is 0. Lists that are lent to be written may not overlap other lists of the call.
  * No call asks for memory of its own but on the stack, of which it takes up to 640 KB. Nothing is kept between calls, so that
  * threads may call at once, each with its own lists.
@@ -90,6 +90,7 @@ enum vougecress_refusal {
 #define VOUGECRESS_HIGHEST_INDEX UINT64_C(10000000000)       /* to 1,000 */
 #define VOUGECRESS_INDEX_OF_100 UINT64_C(1000000000)
 #define VOUGECRESS_MOST_CLOSES 40                            /* closes of one chain */
+#define VOUGECRESS_YEAR_PLACES 4                             /* figures of a year: three quarters and the close */
 #define VOUGECRESS_MOST_SECTORS 64                           /* sectors of a total, and of a sample; places of a sample's lists */
 #define VOUGECRESS_SECTOR_SCALE 1000000                      /* what the sector shares add to */
 #define VOUGECRESS_MOST_STREAM 32768                         /* bytes of a job stream */
@@ -147,6 +148,25 @@ struct vougecress_figure vougecress_quarter(const uint64_t *record, size_t recor
  */
 struct vougecress_figure vougecress_close(uint64_t *record, size_t record_count,
                                           const uint32_t *relatives, size_t relatives_count);
+
+/* How far a year came: the refusal that stopped it, or 0, and the calls that were accepted, 4 without a refusal. */
+struct vougecress_came {
+    uint32_t refusal;
+    uint64_t count;
+};
+
+/*
+ * A year in one call: three quarters and the close, made one by one, each list judged when its call comes. The figures of the
+ * accepted calls are in the first `count` places of `figures`, after a refusal too (no other refused call has written), and
+ * other places stay. The record is the close's, or after a refusal as it was.
+ * Refusals 28 (fewer than 4 places for figures), before anything else, 19 included; then those of the calls, one after the other.
+ */
+struct vougecress_came vougecress_year(uint64_t *record, size_t record_count,
+                                       const uint32_t *first, size_t first_count,
+                                       const uint32_t *second, size_t second_count,
+                                       const uint32_t *third, size_t third_count,
+                                       const uint32_t *last, size_t last_count,
+                                       uint64_t *figures, size_t figures_count);
 
 /* ---- Frame ("Frame and weights", "Draw")
  *

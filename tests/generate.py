@@ -23,6 +23,7 @@ from cases.samples import sample_cases
 from cases.registers import register_cases
 from cases.sheets import sheet_cases
 from cases.writings import read_all_cases, write_cases
+from cases.years import year_cases, year_chain_cases
 
 __all__ = [
     "GENERATORS",
@@ -53,4 +54,6 @@ __all__ = [
     "total_cases",
     "word_cases",
     "write_cases",
+    "year_cases",
+    "year_chain_cases",
 ]

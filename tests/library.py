@@ -12,7 +12,7 @@ from functools import cache
 from pathlib import Path
 
 from independent import Refused
-from independent.chain import Figure, Record, Total
+from independent.chain import Figure, Record, Stopped, Total, Year
 from independent.frame import Drawn, Rotated, Taken
 from independent.sample import Shared
 from independent.register import BadLine
@@ -30,6 +30,7 @@ def answer_type(*fields):
 
 
 FigureAnswer = answer_type(("figure", c_uint64))
+YearAnswer = answer_type(("count", c_uint64))
 TakenAnswer = answer_type(("q", c_uint64), ("n", c_uint64), ("rest", c_uint64))
 DrawnAnswer = answer_type(("n", c_uint64), ("rest", c_uint64))
 RotatedAnswer = answer_type(("k", c_uint32), ("start", c_uint32), ("count", c_uint64))
@@ -57,6 +58,7 @@ SIGNATURES = {
     "vougecress_open": (c_uint32, ("u64s", "u32s", "u32s", c_uint64, "u64s")),
     "vougecress_quarter": (FigureAnswer, ("u64s", "u32s")),
     "vougecress_close": (FigureAnswer, ("u64s", "u32s")),
+    "vougecress_year": (YearAnswer, ("u64s", "u32s", "u32s", "u32s", "u32s", "u64s")),
     "vougecress_total": (FigureAnswer, ("u32s", "u64s")),
     "vougecress_take_all": (TakenAnswer, ("u64s", c_size_t, "u8s")),
     "vougecress_draw": (DrawnAnswer, ("u32s", "u64s", "u32s", c_size_t, c_uint32, "u32s", "u64s")),
@@ -182,6 +184,15 @@ def quarter(record, p):
 
 def close(record, p):
     return called("vougecress_close", record, p)
+
+
+def year(record, first, second, third, last, figures):
+    """The record and the figures after it, and how far it came: a refused year has its count too."""
+    lists = (first, second, third, last)
+    answer, (after, *read, buffer) = call("vougecress_year", as_list(record), *lists, figures)
+    unchanged(read, lists)
+    told = Stopped(answer.refusal, answer.count) if answer.refusal else Year(answer.count)
+    return as_record(after), buffer, told
 
 
 def total(shares, indices):

@@ -101,6 +101,7 @@ NEAREST = {
     "Order": ("order",),
     "Rotation": ("rotation",),
     "Chain": ("open", "call"),
+    "Year": ("year", "events"),
     "Events": ("events",),
     "Direct": ("direct",),
     "Total": ("total",),

@@ -10,7 +10,7 @@ import commands
 import generate
 import library
 from cases.samples import WORKED
-from independent import chain, frame, load, register, sample, sheet
+from independent import Refused, chain, frame, load, register, sample, sheet
 
 TOP = Path(__file__).resolve().parent.parent
 NUMBERS, TURNOVERS = [11, 12, 13, 14, 15], [70_000_000, 10_000_000, 8_000_000, 7_000_000, 5_000_000]
@@ -161,6 +161,22 @@ def test_births(t):
     done = subprocess.run([sys.executable, TOP / "examples" / "births.py"], capture_output=True, text=True)
     t.check((done.returncode, done.stdout) == (0, wanted), "a birth stays out, and joins", done)
     t.check(wanted in (TOP / "README.md").read_text(), "README.md shows them", wanted)
+
+
+def test_one_year(t):
+    """A year as the independent computation has it; README shows the accepted one; a refused year is said."""
+    library.built()
+    for relatives in (["101000", "102000", "103000", "104000"], ["101000", "102000", "24999", "104000"], ["1", "1", "1", "1"]):
+        done = subprocess.run([sys.executable, TOP / "examples" / "one_year.py", *relatives], capture_output=True, text=True)
+        opened = chain.open_chain([2_000_000], [10_000], [100_000], 10**9)
+        record, figures, answer = chain.year(opened, *([int(word)] for word in relatives), [0] * 4)
+        lines = [f"{'C' if place == 3 else 'Q'} {figures[place]}" for place in range(answer.count)]
+        wanted = "".join(line + "\n" for line in lines + [f"index {record.index}, closes {record.closes}"])
+        refused = isinstance(answer, Refused)
+        t.check((done.returncode, done.stdout, bool(done.stderr)) == (int(refused), wanted, refused), "the year", (relatives, done))
+        t.check(refused or wanted in (TOP / "README.md").read_text(), "README.md shows it", wanted)
+    done = subprocess.run([sys.executable, TOP / "examples" / "one_year.py", "1"], capture_output=True, text=True)
+    t.check((done.returncode, done.stdout) == (2, ""), "wrong use", done)
 
 
 def test_make_load(t):

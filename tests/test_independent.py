@@ -12,7 +12,7 @@ from itertools import islice
 import generate
 from cases.frames import WORKED_ANSWERS, worked_births
 from independent import Refused
-from independent.chain import Direct, Figure, Record, Total, close, open_chain, quarter, total, within_bound
+from independent.chain import Direct, Figure, Record, Total, close, open_chain, quarter, total, within_bound, year
 from independent.frame import Drawn, Rotated, Taken, draw, pareto_key, poisson_key, rotate, take_all, take_all_entry
 from independent.stream import COMMANDS, END, Job, front_word, read_command, run, step
 from independent.sample import share
@@ -71,6 +71,19 @@ def try_close(data):
     return answer, record == record_of(data)
 
 
+YEAR_LISTS = ("first", "second", "third", "last", "figures")
+
+
+def year_of(data):
+    """The record, the buffer and the answer of a year case."""
+    return year(record_of(data), *(data[name] for name in YEAR_LISTS))
+
+
+def try_year(data):
+    record, figures, answer = year_of(data)
+    return answer, (record, figures[answer.count :]) == (record_of(data), data["figures"][answer.count :])
+
+
 def try_total(data):
     return total(**data), None
 
@@ -118,6 +131,7 @@ ENTRIES = {
     "open_cases": (try_open, {9, 10, 11, 12, 13, 21, 22}, 300, 20_000),
     "quarter_cases": (try_quarter, {9, 13, 19, 23, 24}, 300, 20_000),
     "close_cases": (try_close, {9, 13, 19, 21, 22, 23, 24}, 300, 20_000),
+    "year_cases": (try_year, {9, 13, 19, 21, 22, 23, 24, 28}, 200, 10_000),
     "total_cases": (try_total, {14}, 300, 20_000),
     "sample_cases": (try_share, {31}, 300, 20_000),
     "reader_cases": (try_read, {15, 16, 17}, 300, 20_000),
@@ -179,15 +193,16 @@ def test_generators_repeat(t):
         t.check([case.data for case in first] != [case.data for case in other], f"{name}: seeds differ")
 
 
-WIDE = {"turnovers", "previous_rest", "out_weights", "W", "weights", "index", "indices", "count", "interviews", "strengths", "minima", "amounts"}
-WIDE_START = ("open_cases", "chain_cases", "load_cases")
+WIDE = {"turnovers", "previous_rest", "out_weights", "W", "weights", "index", "indices", "count", "interviews", "strengths", "minima", "amounts", "figures"}
+WIDE_START = ("open_cases", "chain_cases", "year_chain_cases", "load_cases")
 
 
 def widest(data, name):
     """The largest number of an argument that must fit a machine word."""
     value = data[name]
     if name == "calls":
-        return max((p for _, relatives in value for p in relatives), default=0)
+        lists = [q for kind, p in value for q in (p if kind == "year" else [p])]
+        return max((p for relatives in lists for p in relatives), default=0)
     if isinstance(value, (list, bytes)):
         return max(value, default=0)
     return value
@@ -494,7 +509,47 @@ def test_call_laws(t):
             law_of_calls(t, case)
 
 
+# A year
+
+
+def law_of_year(t, case):
+    """It equals the four calls made one by one, up to a refused one."""
+    record, figures, answer = year_of(case.data)
+    held, told = record_of(case.data), []
+    for name in YEAR_LISTS[:4]:
+        held, said = (close if name == "last" else quarter)(held, case.data[name])
+        told.append(said)
+        if isinstance(said, Refused):
+            break
+    made = [said.F for said in told if isinstance(said, Figure)]
+    t.check(figures == made + case.data["figures"][len(made) :], "the figures of the accepted calls, and the other places as they were", case)
+    t.check(answer.count == len(made), "the count of accepted calls", case)
+    t.check(refusal_in(answer) == refusal_in(told[-1]), "the first refusal", case)
+    t.check(record == held, "the record that the calls leave", case)
+
+
+def test_year_laws(t):
+    counts = set()
+    for case in generate.year_cases(t.seed, t.count(300, 10_000)):
+        if len(case.data["figures"]) >= 4:
+            law_of_year(t, case)
+        answer = year_of(case.data)[2]
+        counts.add((refusal_in(answer), answer.count))
+    due = {(28, 0), (19, 0), (24, 0), (21, 3), (22, 3), (0, 4)} | {(number, count) for number in (9, 13, 23) for count in range(4)}
+    t.check(counts == due, "each refusal at each place that has it", counts ^ due)
+
+
 # Demand 3
+
+
+def single_calls(record, kind, p):
+    """The calls that this one came to, each with the record after it and its answer: a year is its calls up to a refused one."""
+    made = [("quarter", q) for q in p[:3]] + [("close", p[3])] if kind == "year" else [(kind, p)]
+    for name, relatives in made:
+        record, answer = (close if name == "close" else quarter)(record, relatives)
+        yield name, relatives, record, answer
+        if isinstance(answer, Refused):
+            return
 
 
 def follow(t, case):
@@ -505,16 +560,16 @@ def follow(t, case):
     t.check(isinstance(record, Record), "the opening is accepted", case)
     direct = Direct(*opening)
     for kind, p in data["calls"]:
-        before = record
-        record, answer = (close if kind == "close" else quarter)(record, p)
-        if isinstance(answer, Refused):
-            t.check(record == before, "a refused call hands the record back", case)
-            yield answer, None, None
-            continue
-        yield answer, direct.D(p), direct.allowed()
-        if kind == "close":
-            direct.closed(p)
-            t.check(record.closes == direct.m - 1, "m counts the accepted closes", case)
+        for name, relatives, after, answer in single_calls(record, kind, p):
+            if isinstance(answer, Refused):
+                t.check(after == record, "a refused call hands the record back", case)
+                yield answer, None, None
+                continue
+            yield answer, direct.D(relatives), direct.allowed()
+            record = after
+            if name == "close":
+                direct.closed(relatives)
+                t.check(record.closes == direct.m - 1, "m counts the accepted closes", case)
 
 
 def test_demand_3(t):
@@ -530,6 +585,19 @@ def test_demand_3(t):
     t.check(refusals == {9, 13, 21, 22, 23, 24}, "the chains meet each refusal of a call", refusals)
     t.check(steps == set(range(2, 42)), "figures at each count of closes", steps)
     t.check(figures > 20_000, "many figures", figures)
+
+
+def test_demand_3_with_years(t):
+    """A list with years meets the bound as its single calls do."""
+    stopped, figures = 0, 0
+    for case in generate.year_chain_cases(t.seed, t.count(600, 10_000)):
+        for answer, D, allowed in follow(t, case):
+            if D is None:
+                stopped += 1
+                continue
+            t.check(within_bound(answer.F, D, allowed), f"F = {answer.F}, D = {D}, allowed = {allowed}", case)
+            figures += 1
+    t.check(stopped > 100 and figures > 5_000, "many figures, and refused calls", (stopped, figures))
 
 
 # Both floors of the second weight lose nearly a millionth, and it moves apart from

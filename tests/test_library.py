@@ -5,6 +5,7 @@ from collections import Counter
 import generate
 import library
 from cases.samples import WORKED
+from cases.years import LISTS
 from independent import Refused, chain, frame, load, register, sample, sheet, stream, writing
 from independent.chain import Direct, Figure, Record, within_bound
 
@@ -18,6 +19,7 @@ REFUSALS = {
     "open_cases": {9, 10, 11, 12, 13, 21, 22},
     "quarter_cases": {9, 13, 19, 23, 24},
     "close_cases": {9, 13, 19, 21, 22, 23, 24},
+    "year_cases": {9, 13, 19, 21, 22, 23, 24, 28},
     "total_cases": {14},
     "load_cases": {33},
     "word_cases": {17},
@@ -204,6 +206,33 @@ def test_close(t):
     compared(t, "close_cases", 600, 30_000, on_record(library.close), on_record(chain.close))
 
 
+def on_year(year):
+    def tried(data):
+        record = Record(data["units"], data["weights"], data["index"], data["closes"])
+        after, figures, answer = year(record, *(data[name] for name in LISTS), data["figures"])
+        return answer, figures, after
+
+    return tried
+
+
+def test_year(t):
+    compared(t, "year_cases", 400, 20_000, on_year(library.year), on_year(chain.year))
+
+
+def test_year_record_list(t):
+    """A list that is shorter than 103 places is no record: 19, after 28; one place more stays."""
+    full = [1, 10**9, 0, 2 * 10**6] + [0] * 99
+    lists = [[101_000], [102_000], [103_000], [104_000]]
+    for record, room, due in ((full[:-1], 3, 28), (full[:-1], 4, 19), (full, 3, 28)):
+        answer, (after, *_, figures) = library.call("vougecress_year", record, *lists, [7] * room)
+        t.check((answer.refusal, answer.count) == (due, 0), f"a record of {len(record)} places, {room} for figures: {due}")
+        t.check((after, figures) == (record, [7] * room), "nothing is written")
+    answer, (after, *_, figures) = library.call("vougecress_year", full + [5], *lists, [7] * 6)
+    t.check((answer.refusal, answer.count) == (0, 4), "an accepted year")
+    t.check(figures == [1_010_000_000, 1_020_000_000, 1_030_000_000, 1_040_000_000, 7, 7], "its figures")
+    t.check(after[:4] == [1, 1_040_000_000, 1, 2_080_000] and after[-1] == 5, "its record, and a place beyond")
+
+
 def test_total(t):
     compared(t, "total_cases", 400, 20_000, lambda d: library.total(**d), lambda d: chain.total(**d))
 
@@ -238,6 +267,29 @@ def test_chains(t):
     t.check(longest == 40, "some chain reached forty closes", repeat=longest)
 
 
+def test_chains_with_years(t):
+    """Chains with years: digit by digit as the single calls, and every figure within the bound."""
+    figures = sum(follow(t, case)[0] for case in generate.year_chain_cases(t.seed, t.count(400, 5_000)))
+    t.check(figures > 1_000, "many figures were compared", repeat=figures)
+
+
+def follow_year(t, case, ours, theirs, lists, exact):
+    """A year through the library beside the independent single calls, up to a refused one."""
+    after, buffer, told = library.year(ours, *lists, [7] * 4)
+    made = []
+    for place, p in enumerate(lists):
+        theirs, expected = (chain.close if place == 3 else chain.quarter)(theirs, p)
+        if isinstance(expected, Refused):
+            break
+        made.append(expected.F)
+        t.check(within_bound(buffer[place], exact.D(p), exact.allowed()), "year: the figure is within the bound", repeat=case)
+        if place == 3:
+            exact.closed(p)
+    t.check((buffer, told.count, after) == (made + [7] * (4 - len(made)), len(made), theirs), "year: as its single calls", repeat=case)
+    t.check(not isinstance(expected, Refused) or told == chain.Stopped(expected.number, len(made)), "year: the refusal", repeat=case)
+    return after, theirs, len(made)
+
+
 def follow(t, case):
     """One chain through the library beside the independent one; the count of figures and of closes."""
     data = case.data
@@ -248,6 +300,10 @@ def follow(t, case):
         return 0, 0
     exact, figures = Direct(*arguments), 0
     for name, p in data["calls"]:
+        if name == "year":
+            ours, theirs, made = follow_year(t, case, ours, theirs, p, exact)
+            figures += made
+            continue
         ours, told = getattr(library, name)(ours, p)
         theirs, expected = getattr(chain, name)(theirs, p)
         t.check((told, ours) == (expected, theirs), f"chain: a {name} and the record after it", repeat=case)

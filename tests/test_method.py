@@ -176,7 +176,7 @@ class PoissonRotate(Rotate):
 
 
 class Chain(Example):
-    """W, g, a and `open START`, or units, v, C, closes and `record`; then `quarter` and `close` with their relatives"""
+    """W, g, a and `open START`, or units, v, C, closes and `record`; then `quarter` and `close` with their relatives, and `year` by its lists"""
 
     record = None
     direct = None
@@ -190,6 +190,8 @@ class Chain(Example):
             self.hand_in()
         elif word in ("quarter", "close"):
             self.call(word, numbers)
+        elif word == "year":
+            self.year()
         else:
             super().take(line)
 
@@ -225,6 +227,15 @@ class Chain(Example):
             return
         self.answers(answer, F=answer.F)
         self.facts = self.state() + self.reckoned(before, p, answer.F) + self.beside(word, p, answer.F)
+
+    def year(self):
+        lists = self.lists("first", "second", "third", "last", "figures")
+        expected = chain.year(self.record, *lists)
+        self.same(library.year(self.record, *lists), expected)
+        self.record, figures, answer = expected
+        number = answer.number if isinstance(answer, Refused) else 0
+        self.answer = facts_of(refusal=number, count=answer.count, figures=figures)
+        self.facts = self.state()
 
     def reckoned(self, before, p, F):
         v = before.weights[: before.units]
@@ -496,6 +507,11 @@ def number_of(answer):
     return Refused(answer.number) if isinstance(answer, Refused) else answer
 
 
+def year_answer(data):
+    lists = (data[name] for name in ("first", "second", "third", "last", "figures"))
+    return chain.year(record_of(data), *lists)[2]
+
+
 ENTRIES = {
     "take-all": (generate.take_all_cases, lambda data: frame.take_all_entry(**data)[0]),
     "draw": (generate.draw_cases, lambda data: frame.draw(**data)[0]),
@@ -503,6 +519,7 @@ ENTRIES = {
     "open": (generate.open_cases, lambda data: chain.open_chain(**data)),
     "quarter": (generate.quarter_cases, lambda data: chain.quarter(record_of(data), data["p"])[1]),
     "close": (generate.close_cases, lambda data: chain.close(record_of(data), data["p"])[1]),
+    "year": (generate.year_cases, lambda data: number_of(year_answer(data))),
     "total": (generate.total_cases, lambda data: chain.total(**data)),
     "read": (generate.reader_cases, lambda data: stream.read_command(data["part"])[0]),
     "load": (generate.load_cases, lambda data: load.load(**data)[0]),
@@ -532,7 +549,8 @@ def test_orders_of_the_entries(t):
                 pairs.add((case.intends, int(also[1])))
         order = stated.get(entry, [])
         t.check(met == set(order), f"METHOD.md: the refusals of {entry} are {sorted(met)}", order)
-        if entry not in ("read", "read-all"):  # one fault each: a part can hardly have two, and in a stream the first command that has one decides
+        # one fault each: a part can hardly have two; in a stream the first command that has one decides, and in a year the first call
+        if entry not in ("read", "read-all", "year"):
             wrong = sorted(pairs ^ set(combinations(order, 2)))
             t.check(not wrong, f"METHOD.md: of any two refusals of {entry} the first is answered", wrong)
 

@@ -4,6 +4,7 @@ pub mod Weights
 pub mod Accepted
 pub mod Panel
 pub mod Carried
+pub mod Joint
 pub mod Demand3
 pub mod Sentence
 pub mod Cases

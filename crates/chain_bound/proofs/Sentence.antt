@@ -10,7 +10,7 @@ use Rattle.rules.specs.Limits.{shareScale, relativeScale}
 use Rattle.rules.specs.Refusals.{Judged}
 use Rattle.rules.specs.Lists.{products}
 use Rattle.rules.specs.Chain.{Chain, Call, relatives, openAnswer}
-use Rattle.rules.specs.Events.{Event, events}
+use Rattle.rules.specs.Events.{Event, Made, events}
 use Rattle.rules.specs.Direct.{Direct, exactOpen, exactMoved, directOpen, directAfter, numerator, denominator, allowed, Within, AllWithin}
 use Rattle.chain_bound.specs.Sentence.{closesIn, exactAfter, scaleAfter, directTop, directBottom, mAfter}
 use Rattle.chain_bound.proofs.Demand3.{demand3}
@@ -100,8 +100,8 @@ module _ (ws gs rs : List ℕ) (start : ℕ) where
       let m = allowed-is (closesIn before) (relatives call) (reckoned d before) c in
       within-reduced _ _ exactScale (omega arith) (rw (n, b, m) at w)
 
-  -- Of any open that is accepted, any calls after it, and any figure among what they come to.
-  pub demand3-sentence : (r : Chain) → openAnswer ws gs rs start ≡ Judged.given r → (calls : List Call) (before later : List Event) (call : Call) (f : ℕ) →
-      events r calls ≡ before ++ Event.answered call f ∷ later →
+  -- Of any open that is accepted, any quarters, closes and years after it, and any figure among what they come to.
+  pub demand3-sentence : (r : Chain) → openAnswer ws gs rs start ≡ Judged.given r → (list : List Made) (before later : List Event) (call : Call) (f : ℕ) →
+      events r list ≡ before ++ Event.answered call f ∷ later →
       Within f (directTop es start (closesIn before) (relatives call)) (directBottom es (closesIn before)) (mAfter (closesIn before) + 1)
-  demand3-sentence r accepts calls before later call f e = sentence before later call f (rw e at (demand3 ws gs rs start r accepts calls))
+  demand3-sentence r accepts list before later call f e = sentence before later call f (rw e at (demand3 ws gs rs start r accepts list))

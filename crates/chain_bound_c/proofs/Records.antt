@@ -1,6 +1,6 @@
 -- A record with a place for each unit of the largest panel: an open makes one, each call keeps it so, and the list in which it was laid holds it.
 use mathlib.Core.Path.{_≡_, refl, ap, _∙_}
-use mathlib.Core.List.{List}
+use mathlib.Core.List.{List, [], _∷_}
 use Prim.Native.Nat.{ℕ, zero, suc, _-_, _≤_}
 use native.Mathlib.Omega.{arith}
 use lib.ListN.{length, drop, replicate, length-append, length-drop, length-replicate}
@@ -8,6 +8,7 @@ use lib.Seq.{length-take-le, take-at}
 use Rattle.rules.specs.Limits.{mostPanel}
 use Rattle.rules.specs.Refusals.{stays, written}
 use Rattle.rules.specs.Chain.{Chain, Call, held, shared, opening, moved, openRefusal, openRecord, callRefusal, accepted, after}
+use Rattle.rules.specs.Year.{afterAll}
 use Rattle.rules.proofs.Refusals.{then-none}
 use Rattle.rules.proofs.Chains.{openable, admitted}
 use Rattle.chain_bound.proofs.Accepted.{accepted-open, closed-reached, reached-length}
@@ -67,3 +68,8 @@ module _ (r : Chain) (full : Full r) where
       go : (n : ℕ) → callRefusal r call ≡ n → Full (stays n r (accepted r call))
       go zero e = full-accepted call e
       go (suc n) e = full
+
+pub full-all : (calls : List Call) (r : Chain) → Full r → Full (afterAll r calls)
+unfolding afterAll
+full-all [] r full = full
+full-all (call ∷ calls) r full = full-all calls (after r call) (full-after r full call)

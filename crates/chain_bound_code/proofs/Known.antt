@@ -1,4 +1,5 @@
--- `Learnt` is what the code gives, and no hypothesis: of each of the three functions, called by its name, a caller knows it by the function's own theorem.
+-- `Learnt` is what the code gives, and no hypothesis: of open, quarter and close, called by name, a caller knows it by the function's own theorem. The
+-- year is proved by hand; its theorem is of the clauses from which `YearReads` reads what a caller learns.
 use mathlib.Core.Path.{_≡_}
 use mathlib.Core.List.{List}
 use Prim.Native.Nat.{ℕ}
@@ -22,6 +23,8 @@ use Rattle.chain_open.proofs.«open».Kinds as open-kinds
 use Rattle.chain_open.proofs.«open».Reads as open-reads
 use Rattle.chain_open.proofs.«open».Met as open-theorem
 use Rattle.chain_open.proofs.«open».Symbol as open-symbol
+use Rattle.chain_year.proofs.year.Statement as year-statement
+use Rattle.chain_year.proofs.year.Met as year-theorem
 
 -- in any model w of the machine, and any environment γ in which the function's name means its code
 module _ (w : World) (γ : Env) where
@@ -38,3 +41,6 @@ module _ (w : World) (γ : Env) where
   pub close-known : γ close-symbol.name ≡ close-symbol.routine →
       KnownBy 1 close-kinds.ps close-kinds.r close-reads.Asked close-reads.Learnt close-symbol.name
   close-known same = close-reads.known w γ close-symbol.name close-symbol.routine same (close-theorem.met (w .𝓤) (w .H) (w .𝓜) (w .𝓖) (w .𝓡))
+
+pub year-known : {M : Type 1} → year-statement.statement M
+year-known = year-theorem.met

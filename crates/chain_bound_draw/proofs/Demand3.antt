@@ -11,7 +11,7 @@ use Rattle.rules.specs.Refusals.{written}
 use Rattle.rules.specs.TakeAll.{Frame, frame, takeAllGroup}
 use Rattle.rules.specs.Draw.{Drawn, drawRefusal, drawAnswer, drawWeightsBy}
 use Rattle.rules.specs.Chain as rules
-use Rattle.rules.specs.Events.{Event, events}
+use Rattle.rules.specs.Events.{Event, Made, events}
 use Rattle.rules.specs.Direct.{directOpen, AllWithin}
 use Rattle.rules.proofs.Refusals.{given-tells}
 use Rattle.chain_open.specs.declared.Opening.{Opening}
@@ -60,10 +60,10 @@ module _ (method : Method) (ns ts rs : RefT (List ℕ)) (z start : ℕ) (numbers
 
   -- The theorem: w, the list that the open was handed, holds those first z places.
   pub demand3-drawn : (w g a : RefT (List ℕ)) (index : ℕ) (o : Opened) → now w ≡ take z ws → OpenMade w g a index o → o .answer ≡ Opening.Accepted →
-      (calls : List rules.Call) (given : List Event) → CallsMade (o .chain) calls given →
-      (given ≡ events (rules.openRecord (rules.shared panel (now g)) (now a) index) calls) × AllWithin (directOpen panel (now g) (now a) index) given
-  demand3-drawn w g a index o handed opened accepted calls given follow =
+      (list : List Made) (given : List Event) → CallsMade (o .chain) list given →
+      (given ≡ events (rules.openRecord (rules.shared panel (now g)) (now a) index) list) × AllWithin (directOpen panel (now g) (now a) index) given
+  demand3-drawn w g a index o handed opened accepted list given follow =
       subst
       (λ (v : List ℕ).
-      (given ≡ events (rules.openRecord (rules.shared v (now g)) (now a) index) calls) × AllWithin (directOpen v (now g) (now a) index) given)
-      (handed ∙ weights-are) (demand3 w g a index o opened accepted calls given follow)
+      (given ≡ events (rules.openRecord (rules.shared v (now g)) (now a) index) list) × AllWithin (directOpen v (now g) (now a) index) given)
+      (handed ∙ weights-are) (demand3 w g a index o opened accepted list given follow)

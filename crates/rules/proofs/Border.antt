@@ -9,7 +9,7 @@ use borrow.Author.Tests.{ltb-true, leb-true}
 use Rattle.rules.specs.Limits.{shareScale, relativeScale}
 use Rattle.rules.specs.Lists.{sum, products, scaled}
 use Rattle.rules.specs.Chain.{Chain, Call, after}
-use Rattle.rules.specs.Events.{Event, events}
+use Rattle.rules.specs.Events.{Event, singles}
 use Rattle.rules.specs.Direct.{Direct, exactOpen, exactMoved, directOpen, numerator, denominator, directAfter, allowed, Within, AllWithin}
 use Rattle.rules.proofs.Tests.{never}
 
@@ -105,7 +105,7 @@ pub close-counted : (d : Direct) (f h : ℕ) (ps qs : List ℕ) →
 close-counted d f h ps qs all = (all .0, all .1 .0)
 
 -- there is an event for each call
-pub every-call : (r : Chain) (calls : List Call) → length (events r calls) ≡ length calls
-unfolding events
+pub every-call : (r : Chain) (calls : List Call) → length (singles r calls) ≡ length calls
+unfolding singles
 every-call r [] = refl
 every-call r (call ∷ calls) = ap suc (every-call (after r call) calls)

@@ -4,6 +4,7 @@ pub mod Lists
 pub mod Chains
 pub mod Reference
 pub mod Border
+pub mod Years
 pub mod Leavers
 pub mod NoBirths
 pub mod Births
