@@ -1,4 +1,4 @@
-// Document 01, "Frame and weights", "Draw" and "Rotation", and document 02, [8] and [14], in plain C++.
+// Document 01, "Frame and weights", "Draw" and "Rotation", and document 02, [1], [2], [8] and [14], in plain C++.
 #include "baseline.hpp"
 
 #include <algorithm>
@@ -124,6 +124,33 @@ std::vector<Candidate> candidates(const Frame& f, const Group& g) {
     return all;
 }
 
+// 25 and 26, in this order; 0 if neither applies.
+int judge_births(const Frame& f, const Births& b) {
+    if (b.n > kMostPanel || b.rest > kMostTurnover || (b.rest == 0 && b.n != 0)) return 25;
+    if (b.units.size() > kMostFrame || !rising(b.units)) return 26;
+    return std::includes(f.numbers.begin(), f.numbers.end(), b.units.begin(), b.units.end()) ? 0 : 26;
+}
+
+// Members by unit: old panel units in the frame and not take-all now, and the births outside take-all that join. All lists rise.
+std::vector<uint32_t> members_of(const Frame& f, const Group& g, uint32_t start, const std::vector<uint32_t>& old_panel, const Births& b) {
+    std::vector<uint32_t> members;
+    members.reserve(old_panel.size() + b.units.size());
+    size_t old = 0, born = 0;
+    for (uint32_t i = 0; i < f.size(); i++) {
+        while (old < old_panel.size() && old_panel[old] < f.numbers[i]) old++;
+        while (born < b.units.size() && b.units[born] < f.numbers[i]) born++;
+        if (g.marks[i]) continue;
+        if (old < old_panel.size() && old_panel[old] == f.numbers[i]) {
+            members.push_back(i);
+        } else if (born < b.units.size() && b.units[born] == f.numbers[i]) {
+            const auto left = static_cast<unsigned __int128>(shifted(f.randoms[i], start)) * b.rest;
+            const auto right = static_cast<unsigned __int128>(kRange) * b.n * f.turnovers[i];
+            if (left < right) members.push_back(i);
+        }
+    }
+    return members;
+}
+
 // Brings the n with the smallest keys to the front; equal keys by lower unit number.
 template <class Candidate>
 void select(std::vector<Candidate>& all, size_t n, uint32_t start) {
@@ -154,7 +181,7 @@ Panel draw_by(const Frame& f, size_t z, uint32_t start) {
 }
 
 template <class Candidate>
-Turn rotate_by(const Frame& f, size_t z, uint32_t start, const std::vector<uint32_t>& old_panel, uint32_t fraction) {
+Turn rotate_by(const Frame& f, size_t z, uint32_t start, const std::vector<uint32_t>& old_panel, uint32_t fraction, const Births& births) {
     Turn turn;
     turn.refusal = judge(f, z, start);
     if (turn.refusal != 0) return turn;
@@ -162,15 +189,10 @@ Turn rotate_by(const Frame& f, size_t z, uint32_t start, const std::vector<uint3
         turn.refusal = 7;
         return turn;
     }
+    turn.refusal = judge_births(f, births);
+    if (turn.refusal != 0) return turn;
     const Group g = take_all(f.turnovers, z);
-    // Members by unit: old panel units in the frame and not take-all now.
-    std::vector<uint32_t> members;
-    for (uint32_t number : old_panel) {
-        const auto at = std::lower_bound(f.numbers.begin(), f.numbers.end(), number);
-        if (at == f.numbers.end() || *at != number) continue;
-        const auto unit = static_cast<uint32_t>(at - f.numbers.begin());
-        if (!g.marks[unit]) members.push_back(unit);
-    }
+    std::vector<uint32_t> members = members_of(f, g, start, old_panel, births);
     const size_t wanted = (fraction * members.size() + 999) / 1000;
     std::vector<Candidate> all;
     if (g.n > 0) all = candidates<Candidate>(f, g);
@@ -188,8 +210,10 @@ Turn rotate_by(const Frame& f, size_t z, uint32_t start, const std::vector<uint3
         turn.step = step;
         turn.start = at;
         members.erase(std::remove_if(members.begin(), members.end(), [&](uint32_t unit) { return sampled[unit] != 0; }), members.end());
-        // By falling turnover, equal turnovers by lower unit number; members rise.
-        std::stable_sort(members.begin(), members.end(), [&](uint32_t a, uint32_t b) { return f.turnovers[a] > f.turnovers[b]; });
+        // By falling turnover, equal turnovers by lower unit number.
+        std::sort(members.begin(), members.end(), [&](uint32_t a, uint32_t b) {
+            return f.turnovers[a] != f.turnovers[b] ? f.turnovers[a] > f.turnovers[b] : a < b;
+        });
         for (uint32_t unit : members) turn.leavers.push_back(f.numbers[unit]);
         return turn;
     }
@@ -203,16 +227,16 @@ Panel baseline::draw(const Frame& f, size_t z, uint32_t start) {
     return draw_by<Pareto>(f, z, start);
 }
 
-Turn baseline::rotate(const Frame& f, size_t z, uint32_t start, const std::vector<uint32_t>& old_panel, uint32_t fraction) {
-    return rotate_by<Pareto>(f, z, start, old_panel, fraction);
+Turn baseline::rotate(const Frame& f, size_t z, uint32_t start, const std::vector<uint32_t>& old_panel, uint32_t fraction, const Births& births) {
+    return rotate_by<Pareto>(f, z, start, old_panel, fraction, births);
 }
 
 Panel baseline::draw_poisson(const Frame& f, size_t z, uint32_t start) {
     return draw_by<Poisson>(f, z, start);
 }
 
-Turn baseline::rotate_poisson(const Frame& f, size_t z, uint32_t start, const std::vector<uint32_t>& old_panel, uint32_t fraction) {
-    return rotate_by<Poisson>(f, z, start, old_panel, fraction);
+Turn baseline::rotate_poisson(const Frame& f, size_t z, uint32_t start, const std::vector<uint32_t>& old_panel, uint32_t fraction, const Births& births) {
+    return rotate_by<Poisson>(f, z, start, old_panel, fraction, births);
 }
 
 // ---- document 02, [14]: registers as comma lines

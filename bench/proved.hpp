@@ -27,12 +27,12 @@ inline Panel draw_poisson(const Frame& frame, size_t z, uint32_t start) {
 }
 
 template <class Call>
-Turn turned_by(Call call, const Frame& frame, size_t z, uint32_t start, const std::vector<uint32_t>& old_panel, uint32_t fraction) {
+Turn turned_by(Call call, const Frame& frame, size_t z, uint32_t start, const std::vector<uint32_t>& old_panel, uint32_t fraction, const Births& births) {
     Turn t;
-    t.leavers.resize(old_panel.size());
+    t.leavers.resize(old_panel.size() + births.units.size());
     const vougecress_rotated answer = call(frame.numbers.data(), frame.numbers.size(), frame.turnovers.data(), frame.turnovers.size(),
                                            frame.randoms.data(), frame.randoms.size(), z, start, old_panel.data(), old_panel.size(),
-                                           fraction, t.leavers.data(), t.leavers.size());
+                                           fraction, births.n, births.rest, births.units.data(), births.units.size(), t.leavers.data(), t.leavers.size());
     t.refusal = static_cast<int>(answer.refusal);
     t.step = answer.k;
     t.start = answer.start;
@@ -40,12 +40,12 @@ Turn turned_by(Call call, const Frame& frame, size_t z, uint32_t start, const st
     return t;
 }
 
-inline Turn rotate(const Frame& frame, size_t z, uint32_t start, const std::vector<uint32_t>& old_panel, uint32_t fraction) {
-    return turned_by(vougecress_rotate, frame, z, start, old_panel, fraction);
+inline Turn rotate(const Frame& frame, size_t z, uint32_t start, const std::vector<uint32_t>& old_panel, uint32_t fraction, const Births& births) {
+    return turned_by(vougecress_rotate, frame, z, start, old_panel, fraction, births);
 }
 
-inline Turn rotate_poisson(const Frame& frame, size_t z, uint32_t start, const std::vector<uint32_t>& old_panel, uint32_t fraction) {
-    return turned_by(vougecress_rotate_poisson, frame, z, start, old_panel, fraction);
+inline Turn rotate_poisson(const Frame& frame, size_t z, uint32_t start, const std::vector<uint32_t>& old_panel, uint32_t fraction, const Births& births) {
+    return turned_by(vougecress_rotate_poisson, frame, z, start, old_panel, fraction, births);
 }
 
 inline Import import_lines(const std::string& text, size_t places) {

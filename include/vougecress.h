@@ -42,7 +42,7 @@ enum vougecress_refusal {
     VOUGECRESS_REFUSED_TURNOVERS = 3,        /* a turnover 0, or total over 10^12 */
     VOUGECRESS_REFUSED_RANDOM_NUMBERS = 4,   /* random number or start over 999,999 */
     VOUGECRESS_REFUSED_PANEL_SIZE = 5,       /* z is 0, over 100 or over the units */
-    VOUGECRESS_REFUSED_RESULT_BUFFER = 6,    /* a result buffer shorter than z, or for leavers than the old panel */
+    VOUGECRESS_REFUSED_RESULT_BUFFER = 6,    /* a result buffer shorter than z, or for leavers than the old panel and the births together */
     VOUGECRESS_REFUSED_OLD_PANEL = 7,        /* f over 1,000, or old panel over 100 or not rising */
     VOUGECRESS_REFUSED_NO_STEP = 8,          /* no step rotates enough */
     VOUGECRESS_REFUSED_UNIT_LISTS = 9,       /* unit lists empty, over 100, or unequal to each other or to the record */
@@ -228,7 +228,11 @@ struct vougecress_rotated {
 /*
  * Rotates an old panel (rising unit numbers, at most 100) by at least `fraction` thousandths of its members. Writes the unit
  * numbers of the leavers, by falling turnover in this frame and equal turnovers by lower unit number, into the first `count`
- * places of `leavers`, which must be at least as long as the old panel; the other places stay. Refusals 1 to 8.
+ * places of `leavers`, which must be at least as long as the old panel and the births together; the other places stay.
+ * Births (rising unit numbers of this frame) join the members where they are not take-all and
+ * r x previous_rest < 1,000,000 x previous_n x turnover, r shifted by old_start. previous_n is the previous draw's n (0 to
+ * 100) and previous_rest its X (0 to 10^12, not 0 unless previous_n is 0). Without births give 0, 0 and an empty list.
+ * A birth of the old panel is one member. Refusals 1 to 7, 25, 26, 8, in this order.
  */
 struct vougecress_rotated vougecress_rotate(const uint32_t *numbers, size_t numbers_count,
                                             const uint64_t *turnovers, size_t turnovers_count,
@@ -236,15 +240,20 @@ struct vougecress_rotated vougecress_rotate(const uint32_t *numbers, size_t numb
                                             size_t z, uint32_t old_start,
                                             const uint32_t *old_panel, size_t old_panel_count,
                                             uint32_t fraction,
+                                            size_t previous_n, uint64_t previous_rest,
+                                            const uint32_t *births, size_t births_count,
                                             uint32_t *leavers, size_t leavers_count);
 
-/* The same rotation by sequential Poisson keys: a leaver is a member that vougecress_draw_poisson does not sample. */
+/* The same rotation by sequential Poisson keys: a leaver is a member that vougecress_draw_poisson does not sample.
+ * The births join by the same comparison, which no key enters. */
 struct vougecress_rotated vougecress_rotate_poisson(const uint32_t *numbers, size_t numbers_count,
                                                     const uint64_t *turnovers, size_t turnovers_count,
                                                     const uint32_t *randoms, size_t randoms_count,
                                                     size_t z, uint32_t old_start,
                                                     const uint32_t *old_panel, size_t old_panel_count,
                                                     uint32_t fraction,
+                                                    size_t previous_n, uint64_t previous_rest,
+                                                    const uint32_t *births, size_t births_count,
                                                     uint32_t *leavers, size_t leavers_count);
 
 /* ---- Total ("Total"): shares in millionths that add to 1,000,000, and an index a sector. Refusal 14. */

@@ -62,9 +62,15 @@ SIGNATURES = {
     "vougecress_total": (FigureAnswer, ("u32s", "u64s")),
     "vougecress_take_all": (TakenAnswer, ("u64s", c_size_t, "u8s")),
     "vougecress_draw": (DrawnAnswer, ("u32s", "u64s", "u32s", c_size_t, c_uint32, "u32s", "u64s")),
-    "vougecress_rotate": (RotatedAnswer, ("u32s", "u64s", "u32s", c_size_t, c_uint32, "u32s", c_uint32, "u32s")),
+    "vougecress_rotate": (
+        RotatedAnswer,
+        ("u32s", "u64s", "u32s", c_size_t, c_uint32, "u32s", c_uint32, c_size_t, c_uint64, "u32s", "u32s"),
+    ),
     "vougecress_draw_poisson": (DrawnAnswer, ("u32s", "u64s", "u32s", c_size_t, c_uint32, "u32s", "u64s")),
-    "vougecress_rotate_poisson": (RotatedAnswer, ("u32s", "u64s", "u32s", c_size_t, c_uint32, "u32s", c_uint32, "u32s")),
+    "vougecress_rotate_poisson": (
+        RotatedAnswer,
+        ("u32s", "u64s", "u32s", c_size_t, c_uint32, "u32s", c_uint32, c_size_t, c_uint64, "u32s", "u32s"),
+    ),
     "vougecress_load": (LoadAnswer, (c_uint64, c_size_t, "u32s", "u64s", "u32s")),
     "vougecress_sample": (SampleAnswer, (c_uint64, "u64s", "u64s")),
     "vougecress_import": (RegisterAnswer, ("octets", "u32s", "u64s", "u32s")),
@@ -212,12 +218,13 @@ def draw(numbers, turnovers, randoms, z, start, out_numbers, out_weights, entry=
     return refusal_of(answer) or Drawn(answer.n, answer.rest), after_numbers, after_weights
 
 
-def rotate(numbers, turnovers, randoms, z, old_start, old_panel, f, out_leavers, entry="vougecress_rotate"):
+def rotate(
+    numbers, turnovers, randoms, z, old_start, old_panel, f, previous_n, previous_rest, births, out_leavers, entry="vougecress_rotate"
+):
     """The answer and the buffer afterwards."""
-    answer, (*read, leavers) = call(
-        entry, numbers, turnovers, randoms, z, old_start, old_panel, f, out_leavers
-    )
-    unchanged(read, (numbers, turnovers, randoms, old_panel))
+    rest = (old_start, old_panel, f, previous_n, previous_rest, births, out_leavers)
+    answer, (*read, leavers) = call(entry, numbers, turnovers, randoms, z, *rest)
+    unchanged(read, (numbers, turnovers, randoms, old_panel, births))
     return refusal_of(answer) or Rotated(answer.k, answer.start, answer.count), leavers
 
 

@@ -40,7 +40,7 @@ def expected():
     record, figure = chain.close(record, [105_000, 98_000, 120_000])
     lines.append(f"close of the year: {figure.F}")
     job.append(f"C {figure.F}")
-    turn, leavers = frame.rotate(NUMBERS, TURNOVERS, RANDOMS, SIZE, 0, panel, 500, [0] * SIZE)
+    turn, leavers = frame.rotate(NUMBERS, TURNOVERS, RANDOMS, SIZE, 0, panel, 500, 0, 0, [], [0] * SIZE)
     left = " ".join(str(unit) for unit in leavers[: turn.count])
     lines.append(f"rotation of half: step {turn.k}, new start {turn.new_start}, leavers {left}")
     _, weights, drawn, printed = drawn_from(turn.new_start)
@@ -142,11 +142,24 @@ def test_leavers(t):
     """The worked leavers of document 02, [1], as the example prints them and as README shows them."""
     library.built()
     lists = ([1, 2, 3, 4, 5, 6], [10, 30, 20, 30, 25, 15], [100_000, 50_000, 150_000, 20_000, 900_000, 950_000])
-    turn, leavers = frame.rotate(*lists, 1, 0, [1, 2, 3, 4], 1_000, [0] * 4)
+    turn, leavers = frame.rotate(*lists, 1, 0, [1, 2, 3, 4], 1_000, 0, 0, [], [0] * 4)
     lines = [f"step {turn.k}, new start {turn.new_start}"] + [f"unit {unit} turnover {lists[1][unit - 1]}" for unit in leavers]
     wanted = "".join(line + "\n" for line in lines)
     done = subprocess.run([sys.executable, TOP / "examples" / "leavers.py"], capture_output=True, text=True)
     t.check((done.returncode, done.stdout) == (0, wanted), "the leavers in order", done)
+    t.check(wanted in (TOP / "README.md").read_text(), "README.md shows them", wanted)
+
+
+def test_births(t):
+    """A birth at the border of document 02, [2], as the example prints it and as README shows it."""
+    library.built()
+    wanted = ""
+    for rest in (40_000_000, 39_999_999):
+        turn, leavers = frame.rotate(NUMBERS, TURNOVERS, RANDOMS, SIZE, 0, [13, 15], 500, 2, rest, [12], [0] * 3)
+        left = " ".join(str(unit) for unit in leavers[: turn.count])
+        wanted += f"X {rest}: step {turn.k}, new start {turn.new_start}, leavers {left}\n"
+    done = subprocess.run([sys.executable, TOP / "examples" / "births.py"], capture_output=True, text=True)
+    t.check((done.returncode, done.stdout) == (0, wanted), "a birth stays out, and joins", done)
     t.check(wanted in (TOP / "README.md").read_text(), "README.md shows them", wanted)
 
 

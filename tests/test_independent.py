@@ -10,6 +10,7 @@ from fractions import Fraction
 from itertools import islice
 
 import generate
+from cases.frames import WORKED_ANSWERS, worked_births
 from independent import Refused
 from independent.chain import Direct, Figure, Record, Total, close, open_chain, quarter, total, within_bound, year
 from independent.frame import Drawn, Rotated, Taken, draw, pareto_key, poisson_key, rotate, take_all, take_all_entry
@@ -124,9 +125,9 @@ def try_read_all(data):
 ENTRIES = {
     "draw_cases": (try_draw, {1, 2, 3, 4, 5, 6}, 60, 3_000),
     "take_all_cases": (try_take_all, {1, 3, 5, 6}, 100, 5_000),
-    "rotate_cases": (try_rotate, {1, 2, 3, 4, 5, 6, 7, 8}, 30, 1_000),
+    "rotate_cases": (try_rotate, {1, 2, 3, 4, 5, 6, 7, 25, 26, 8}, 30, 1_000),
     "poisson_draw_cases": (try_poisson_draw, {1, 2, 3, 4, 5, 6}, 60, 3_000),
-    "poisson_rotate_cases": (try_poisson_rotate, {1, 2, 3, 4, 5, 6, 7, 8}, 30, 1_000),
+    "poisson_rotate_cases": (try_poisson_rotate, {1, 2, 3, 4, 5, 6, 7, 25, 26, 8}, 30, 1_000),
     "open_cases": (try_open, {9, 10, 11, 12, 13, 21, 22}, 300, 20_000),
     "quarter_cases": (try_quarter, {9, 13, 19, 23, 24}, 300, 20_000),
     "close_cases": (try_close, {9, 13, 19, 21, 22, 23, 24}, 300, 20_000),
@@ -192,7 +193,7 @@ def test_generators_repeat(t):
         t.check([case.data for case in first] != [case.data for case in other], f"{name}: seeds differ")
 
 
-WIDE = {"turnovers", "out_weights", "W", "weights", "index", "indices", "count", "interviews", "strengths", "minima", "amounts", "figures"}
+WIDE = {"turnovers", "previous_rest", "out_weights", "W", "weights", "index", "indices", "count", "interviews", "strengths", "minima", "amounts", "figures"}
 WIDE_START = ("open_cases", "chain_cases", "year_chain_cases", "load_cases")
 
 
@@ -382,7 +383,7 @@ def test_poisson_worked(t):
     four = draws[-1][0]
     t.check(draw(*four, 2, 0, [0] * 2, [0] * 2)[1] == [1, 3], "the Pareto draw")
     for key, k, leaver in ((poisson_key, 0, 1), (pareto_key, 1, 3)):
-        told = rotate(*four, 2, 0, [1, 3], 500, [0, 7], key=key)
+        told = rotate(*four, 2, 0, [1, 3], 500, 0, 0, [], [0, 7], key=key)
         t.check(told == (Rotated(k, 1_000 * k, 1), [leaver, 7]), "the worked rotation", told)
 
 
@@ -396,10 +397,18 @@ def drawn_under(data, start):
     return set(draw(*frame, z, start, [0] * z, [0] * z)[1])
 
 
+def birth_joins(data, place):
+    """A birth's chance of having been drawn under the old start, n' x turnover / X', is over its shifted number's share."""
+    chance = data["previous_n"] * data["turnovers"][place]
+    shifted = (data["randoms"][place] - data["old_start"]) % 1_000_000
+    return data["previous_rest"] > 0 and Fraction(chance, data["previous_rest"]) > Fraction(shifted, 1_000_000)
+
+
 def members_of(data):
-    """Old panel units in the frame and not take-all now."""
+    """Old panel units in the frame and not take-all now, and the births that join, each once, by number."""
     group = {data["numbers"][i] for i in group_places(data)}
-    return [number for number in data["old_panel"] if number in data["numbers"] and number not in group]
+    joined = {n for i, n in enumerate(data["numbers"]) if n in data["births"] and birth_joins(data, i)}
+    return sorted(n for n in joined | set(data["old_panel"]) if n in data["numbers"] and n not in group)
 
 
 def leavers_under(data, k):
@@ -448,9 +457,16 @@ def test_rotation_laws(t):
 def test_leavers_in_order(t):
     """Document 02's worked case: units 2 and 4 have one turnover, the largest."""
     lists = ([1, 2, 3, 4, 5, 6], [10, 30, 20, 30, 25, 15], [100_000, 50_000, 150_000, 20_000, 900_000, 950_000])
-    answer, leavers = rotate(*lists, 1, 0, [1, 2, 3, 4], 1_000, [0] * 6)
+    answer, leavers = rotate(*lists, 1, 0, [1, 2, 3, 4], 1_000, 0, 0, [], [0] * 6)
     t.check(answer == Rotated(151, 151_000, 4), "the worked step", answer)
     t.check(leavers == [2, 4, 3, 1, 0, 0], "the worked leavers", leavers)
+
+
+def test_births(t):
+    """Document 02's births at their borders, with the answers that were reckoned by hand."""
+    for (_, what, data), (told, leavers) in zip(worked_births(), WORKED_ANSWERS):
+        wanted = Refused(told) if isinstance(told, int) else Rotated(*told)
+        t.check(rotate(**data) == (wanted, leavers), what, rotate(**data))
 
 
 # Open, quarter, close

@@ -136,7 +136,7 @@ def keys(numbers, turnovers, randoms, start, stratum, key):
 
 
 class Rotate(Example):
-    """numbers, turnovers, randoms, z, start, old, f, leavers"""
+    """numbers, turnovers, randoms, z, start, old, f, leavers; previous-n, previous-X and births, or none of the three"""
 
     key = staticmethod(frame.pareto_key)
     ours = staticmethod(library.rotate)
@@ -146,15 +146,18 @@ class Rotate(Example):
         numbers, turnovers, _ = register
         z, start, f = self.one("z"), self.one("start"), self.one("f")
         old, before = self.lists("old", "leavers")
-        answer, after = frame.rotate(*register, z, start, old, f, before, key=self.key)
-        self.same(self.ours(*register, z, start, old, f, before), (answer, after))
+        births = self.given.get("births", [])
+        previous = [self.one(name) if name in self.given else 0 for name in ("previous-n", "previous-X")]
+        answer, after = frame.rotate(*register, z, start, old, f, *previous, births, before, key=self.key)
+        self.same(self.ours(*register, z, start, old, f, *previous, births, before), (answer, after))
         if isinstance(answer, Refused):
             self.answers(answer, said("leavers", after))
         else:
             self.answers(answer, said("leavers", after), k=answer.k, start=answer.new_start, count=answer.count)
         if not isinstance(answer, Refused) or answer.number == 8:
             stratum = frame.take_all(turnovers, z)
-            members = [n for i, n in enumerate(numbers) if n in old and i not in stratum.group]
+            places = frame.members_of(*register, start, old, *previous, births, stratum.group)
+            members = [numbers[i] for i in places]
             self.facts = facts_of(members=members, required=frame.required_leavers(f, len(members)))
             self.facts += [self.step(register, start, members, stratum, k) for k in range(frame.LAST_STEP + 1)]
 
@@ -618,6 +621,8 @@ WORDS = {
     21: [LIMIT["leastWeight"]],
     22: [LIMIT["mostWeight"]],
     23: INDEX,
+    25: [LIMIT["mostPanel"], LIMIT["mostTurnover"], 0],
+    26: [LIMIT["mostFrame"]],
     31: [LIMIT["mostSectors"], LIMIT["mostInterviews"]],
     32: [LIMIT["nameColumns"], LIMIT["lowestPrintable"], LIMIT["highestPrintable"], *INDEX, LIMIT["lineBytes"]],
     33: [LIMIT["stateRange"], 0, LIMIT["mostFrame"]],
@@ -641,7 +646,7 @@ def test_refusals_in_the_text(t):
     """The pages' sentences have the same limits; 9 is also that of a call, which has none."""
     sentences = re.findall(r"^- (\d+): (.*)$", TEXT, re.MULTILINE)
     numbers = [int(number) for number, _ in sentences]
-    t.check(numbers == [*range(1, 7), 6, 7, 8, *range(9, 14), 21, 22, 9, 13, 21, 22, 23, 24], "METHOD.md: each in its order", numbers)
+    t.check(numbers == [*range(1, 7), 6, 7, 25, 26, 8, *range(9, 14), 21, 22, 9, 13, 21, 22, 23, 24], "METHOD.md: each in its order", numbers)
     for number, words in sentences:
         wanted = [WORDS.get(int(number), []), []] if number == "9" else [WORDS.get(int(number), [])]
         t.check(values_in(words) in wanted, f"METHOD.md: the limits of {number}", words)

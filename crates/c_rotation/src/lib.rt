@@ -1,8 +1,8 @@
-// Rotation, by Pareto keys or by sequential Poisson keys, on a lent frame, old panel and buffer.
+// Rotation, by Pareto keys or by sequential Poisson keys, on a lent frame, old panel, births and buffer.
 use draw_key::Method;
 ghost use mathlib.Core.Path.{_≡_};
 ghost use Rattle.rules.specs.TakeAll.{frame};
-ghost use Rattle.rules.specs.Rotation.{rotationAnswerBy, rotationLeaversBy, rotationAnswer, rotationLeavers};
+ghost use Rattle.rules.specs.Rotation.{born, rotationAnswerBy, rotationLeaversBy, rotationAnswer, rotationLeavers};
 ghost use Rattle.rules.specs.Draw.{Method as KeyMethod};
 ghost use Rattle.rotation.specs.Answer.{answerFrom};
 ghost use Rattle.c_rotation.specs.Answer.{rotatedFrom};
@@ -45,14 +45,17 @@ pub extern "C" fn vougecress_rotate(
     old: u32,
     panel: &[u32],
     fraction: u32,
+    size: usize,
+    rest: u64,
+    births: &[u32],
     leavers: &mut [u32],
 ) -> Rotated
     ensures { λ r.
         ⌜ r ≡ rotatedFrom (rotationAnswer (frame (now (numbers .entry)) (now (turnovers .entry)) (now (randoms .entry))) z old (now (panel .entry))
-        fraction (now (leavers .entry))) ⌝ }
+        fraction (born size rest (now (births .entry))) (now (leavers .entry))) ⌝ }
     ensures { λ _.
         ⌜ now (leavers .exit) ≡ rotationLeavers (frame (now (numbers .entry)) (now (turnovers .entry)) (now (randoms .entry))) z old (now (panel .entry))
-        fraction (now (leavers .entry)) ⌝ }
+        fraction (born size rest (now (births .entry))) (now (leavers .entry)) ⌝ }
 {
     let answer = rotation::rotate(
         numbers,
@@ -62,6 +65,9 @@ pub extern "C" fn vougecress_rotate(
         old,
         panel,
         fraction,
+        size,
+        rest,
+        births,
         leavers,
     );
     shown(answer)
@@ -76,14 +82,17 @@ pub extern "C" fn vougecress_rotate_poisson(
     from: u32,
     panel: &[u32],
     fraction: u32,
+    size: usize,
+    rest: u64,
+    births: &[u32],
     leavers: &mut [u32],
 ) -> Rotated
     ensures { λ r.
         ⌜ r ≡ rotatedFrom (rotationAnswerBy KeyMethod.sequentialPoisson (frame (now (numbers .entry)) (now (turnovers .entry)) (now (randoms .entry))) z from (now (panel .entry))
-        fraction (now (leavers .entry))) ⌝ }
+        fraction (born size rest (now (births .entry))) (now (leavers .entry))) ⌝ }
     ensures { λ _.
         ⌜ now (leavers .exit) ≡ rotationLeaversBy KeyMethod.sequentialPoisson (frame (now (numbers .entry)) (now (turnovers .entry)) (now (randoms .entry))) z from (now (panel .entry))
-        fraction (now (leavers .entry)) ⌝ }
+        fraction (born size rest (now (births .entry))) (now (leavers .entry)) ⌝ }
 {
     let answer = rotation::rotate_by(
         Method::SequentialPoisson,
@@ -94,6 +103,9 @@ pub extern "C" fn vougecress_rotate_poisson(
         from,
         panel,
         fraction,
+        size,
+        rest,
+        births,
         leavers,
     );
     shown(answer)

@@ -1,4 +1,4 @@
--- `rotate_by` meets its contract: a refusal of 1 to 7 stops it with the buffer whole, otherwise `turn` goes on.
+-- `rotate_by` meets its contract: a refusal of 1 to 7, 25 or 26 stops it with the buffer whole, otherwise `turn` goes on.
 use mathlib.Core.Path.{sym, ap, _∙_}
 use borrow.Author.Needs.{needs}
 use Rattle.refusals.specs.Number.{verdictOf}
@@ -12,7 +12,7 @@ turn-requires c κs = sym (c .before .before .before .judge .ensures) ∙ ap ver
 returns : tie.Need-returns
 returns c =
     let v = c .before .verdict .given in
-    refused-early _ _ _ _ _ _ _ (v .0 .0) (sym (ap verdictOf (v .1)) ∙ c .before .before .before .judge .ensures)
+    refused-early _ _ _ _ _ _ _ _ (v .0 .0) (sym (ap verdictOf (v .1)) ∙ c .before .before .before .judge .ensures)
 
 pub rotate-by-spec : {M : Type 1} → statement M
 rotate-by-spec =
