@@ -1,4 +1,4 @@
-// Document 01, "Frame and weights", "Draw" and "Rotation", and document 02, [14], in plain C++.
+// Document 01, "Frame and weights", "Draw" and "Rotation", and document 02, [1], [2], [8] and [14], in plain C++.
 #include "baseline.hpp"
 
 #include <algorithm>
@@ -68,52 +68,105 @@ Group take_all(const std::vector<uint64_t>& turnovers, size_t z) {
     return g;
 }
 
-// A unit outside take-all. The gap X − n × turnover does not depend on the start.
-struct Candidate {
+uint64_t shifted(uint32_t random, uint32_t start) {
+    return random < start ? random + kRange - start : random - start;
+}
+
+// A unit outside take-all and its Pareto key. The gap X − n × turnover does not depend on the start.
+struct Pareto {
     uint64_t num;
     uint64_t den;
     uint64_t gap;
     uint64_t turnover;
     uint32_t random;
     uint32_t unit;
+
+    static Pareto of(const Group& g, uint64_t t, uint32_t random, uint32_t unit) { return {0, 0, g.rest - g.n * t, t, random, unit}; }
+
+    void move_to(uint32_t start) {
+        const uint64_t r = shifted(random, start);
+        num = r * gap;
+        den = (kRange - r) * turnover;
+    }
+
+    bool operator<(const Pareto& other) const {
+        const auto left = static_cast<unsigned __int128>(num) * other.den;
+        const auto right = static_cast<unsigned __int128>(other.num) * den;
+        return left != right ? left < right : unit < other.unit;
+    }
 };
 
+// The same with its sequential Poisson key, r over turnover: a cross product is below 10^18 and fits 64 bits.
+struct Poisson {
+    uint64_t r;
+    uint64_t turnover;
+    uint32_t random;
+    uint32_t unit;
+
+    static Poisson of(const Group&, uint64_t t, uint32_t random, uint32_t unit) { return {0, t, random, unit}; }
+
+    void move_to(uint32_t start) { r = shifted(random, start); }
+
+    bool operator<(const Poisson& other) const {
+        const uint64_t left = r * other.turnover;
+        const uint64_t right = other.r * turnover;
+        return left != right ? left < right : unit < other.unit;
+    }
+};
+
+template <class Candidate>
 std::vector<Candidate> candidates(const Frame& f, const Group& g) {
     std::vector<Candidate> all;
     all.reserve(f.size());
     for (uint32_t i = 0; i < f.size(); i++) {
-        if (g.marks[i]) continue;
-        const uint64_t t = f.turnovers[i];
-        all.push_back({0, 0, g.rest - g.n * t, t, f.randoms[i], i});
+        if (!g.marks[i]) all.push_back(Candidate::of(g, f.turnovers[i], f.randoms[i], i));
     }
     return all;
 }
 
-// Brings the n with the smallest keys to the front; equal keys by lower unit number.
-void select(std::vector<Candidate>& all, size_t n, uint32_t start) {
-    for (Candidate& c : all) {
-        const uint64_t r = c.random < start ? c.random + kRange - start : c.random - start;
-        c.num = r * c.gap;
-        c.den = (kRange - r) * c.turnover;
-    }
-    if (n == all.size()) return;
-    std::nth_element(all.begin(), all.begin() + n, all.end(), [](const Candidate& a, const Candidate& b) {
-        const auto left = static_cast<unsigned __int128>(a.num) * b.den;
-        const auto right = static_cast<unsigned __int128>(b.num) * a.den;
-        return left != right ? left < right : a.unit < b.unit;
-    });
+// 25 and 26, in this order; 0 if neither applies.
+int judge_births(const Frame& f, const Births& b) {
+    if (b.n > kMostPanel || b.rest > kMostTurnover || (b.rest == 0 && b.n != 0)) return 25;
+    if (b.units.size() > kMostFrame || !rising(b.units)) return 26;
+    return std::includes(f.numbers.begin(), f.numbers.end(), b.units.begin(), b.units.end()) ? 0 : 26;
 }
 
-}  // namespace
+// Members by unit: old panel units in the frame and not take-all now, and the births outside take-all that join. All lists rise.
+std::vector<uint32_t> members_of(const Frame& f, const Group& g, uint32_t start, const std::vector<uint32_t>& old_panel, const Births& b) {
+    std::vector<uint32_t> members;
+    members.reserve(old_panel.size() + b.units.size());
+    size_t old = 0, born = 0;
+    for (uint32_t i = 0; i < f.size(); i++) {
+        while (old < old_panel.size() && old_panel[old] < f.numbers[i]) old++;
+        while (born < b.units.size() && b.units[born] < f.numbers[i]) born++;
+        if (g.marks[i]) continue;
+        if (old < old_panel.size() && old_panel[old] == f.numbers[i]) {
+            members.push_back(i);
+        } else if (born < b.units.size() && b.units[born] == f.numbers[i]) {
+            const auto left = static_cast<unsigned __int128>(shifted(f.randoms[i], start)) * b.rest;
+            const auto right = static_cast<unsigned __int128>(kRange) * b.n * f.turnovers[i];
+            if (left < right) members.push_back(i);
+        }
+    }
+    return members;
+}
 
-Panel baseline::draw(const Frame& f, size_t z, uint32_t start) {
+// Brings the n with the smallest keys to the front; equal keys by lower unit number.
+template <class Candidate>
+void select(std::vector<Candidate>& all, size_t n, uint32_t start) {
+    for (Candidate& c : all) c.move_to(start);
+    if (n < all.size()) std::nth_element(all.begin(), all.begin() + n, all.end());
+}
+
+template <class Candidate>
+Panel draw_by(const Frame& f, size_t z, uint32_t start) {
     Panel panel;
     panel.refusal = judge(f, z, start);
     if (panel.refusal != 0) return panel;
     const Group g = take_all(f.turnovers, z);
     std::vector<uint8_t> drawn = g.marks;
     if (g.n > 0) {
-        std::vector<Candidate> all = candidates(f, g);
+        std::vector<Candidate> all = candidates<Candidate>(f, g);
         select(all, g.n, start);
         for (size_t k = 0; k < g.n; k++) drawn[all[k].unit] = 1;
     }
@@ -127,7 +180,8 @@ Panel baseline::draw(const Frame& f, size_t z, uint32_t start) {
     return panel;
 }
 
-Turn baseline::rotate(const Frame& f, size_t z, uint32_t start, const std::vector<uint32_t>& old_panel, uint32_t fraction) {
+template <class Candidate>
+Turn rotate_by(const Frame& f, size_t z, uint32_t start, const std::vector<uint32_t>& old_panel, uint32_t fraction, const Births& births) {
     Turn turn;
     turn.refusal = judge(f, z, start);
     if (turn.refusal != 0) return turn;
@@ -135,18 +189,13 @@ Turn baseline::rotate(const Frame& f, size_t z, uint32_t start, const std::vecto
         turn.refusal = 7;
         return turn;
     }
+    turn.refusal = judge_births(f, births);
+    if (turn.refusal != 0) return turn;
     const Group g = take_all(f.turnovers, z);
-    // Members by unit: old panel units in the frame and not take-all now.
-    std::vector<uint32_t> members;
-    for (uint32_t number : old_panel) {
-        const auto at = std::lower_bound(f.numbers.begin(), f.numbers.end(), number);
-        if (at == f.numbers.end() || *at != number) continue;
-        const auto unit = static_cast<uint32_t>(at - f.numbers.begin());
-        if (!g.marks[unit]) members.push_back(unit);
-    }
+    std::vector<uint32_t> members = members_of(f, g, start, old_panel, births);
     const size_t wanted = (fraction * members.size() + 999) / 1000;
     std::vector<Candidate> all;
-    if (g.n > 0) all = candidates(f, g);
+    if (g.n > 0) all = candidates<Candidate>(f, g);
     std::vector<uint8_t> sampled(f.size());
     for (uint32_t step = 0; step < kSteps; step++) {
         const uint32_t at = (start + 1000 * step) % kRange;
@@ -161,13 +210,33 @@ Turn baseline::rotate(const Frame& f, size_t z, uint32_t start, const std::vecto
         turn.step = step;
         turn.start = at;
         members.erase(std::remove_if(members.begin(), members.end(), [&](uint32_t unit) { return sampled[unit] != 0; }), members.end());
-        // By falling turnover, equal turnovers by lower unit number; members rise.
-        std::stable_sort(members.begin(), members.end(), [&](uint32_t a, uint32_t b) { return f.turnovers[a] > f.turnovers[b]; });
+        // By falling turnover, equal turnovers by lower unit number.
+        std::sort(members.begin(), members.end(), [&](uint32_t a, uint32_t b) {
+            return f.turnovers[a] != f.turnovers[b] ? f.turnovers[a] > f.turnovers[b] : a < b;
+        });
         for (uint32_t unit : members) turn.leavers.push_back(f.numbers[unit]);
         return turn;
     }
     turn.refusal = 8;
     return turn;
+}
+
+}  // namespace
+
+Panel baseline::draw(const Frame& f, size_t z, uint32_t start) {
+    return draw_by<Pareto>(f, z, start);
+}
+
+Turn baseline::rotate(const Frame& f, size_t z, uint32_t start, const std::vector<uint32_t>& old_panel, uint32_t fraction, const Births& births) {
+    return rotate_by<Pareto>(f, z, start, old_panel, fraction, births);
+}
+
+Panel baseline::draw_poisson(const Frame& f, size_t z, uint32_t start) {
+    return draw_by<Poisson>(f, z, start);
+}
+
+Turn baseline::rotate_poisson(const Frame& f, size_t z, uint32_t start, const std::vector<uint32_t>& old_panel, uint32_t fraction, const Births& births) {
+    return rotate_by<Poisson>(f, z, start, old_panel, fraction, births);
 }
 
 // ---- document 02, [14]: registers as comma lines

@@ -13,6 +13,13 @@ struct Panel {
     std::vector<uint64_t> weights;
 };
 
+// The previous draw's n and X, and the unit numbers of births.
+struct Births {
+    size_t n = 0;
+    uint64_t rest = 0;
+    std::vector<uint32_t> units;
+};
+
 // A refusal's number, or 0 with the step, the new start and the leavers by falling turnover.
 struct Turn {
     int refusal = 0;
@@ -38,7 +45,9 @@ struct Import {
 
 namespace baseline {
 Panel draw(const Frame& frame, size_t z, uint32_t start);
-Turn rotate(const Frame& frame, size_t z, uint32_t start, const std::vector<uint32_t>& old_panel, uint32_t fraction);
+Turn rotate(const Frame& frame, size_t z, uint32_t start, const std::vector<uint32_t>& old_panel, uint32_t fraction, const Births& births);
+Panel draw_poisson(const Frame& frame, size_t z, uint32_t start);
+Turn rotate_poisson(const Frame& frame, size_t z, uint32_t start, const std::vector<uint32_t>& old_panel, uint32_t fraction, const Births& births);
 Import import_lines(const std::string& text, size_t places);
 Import import_units(const std::string& text, size_t places);
 }

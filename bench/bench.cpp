@@ -1,5 +1,5 @@
 // Times the proved draw, rotation and import against the C++ ones, by turns in one run, and compares the answers.
-// `bench check` runs document 01's cases K1 to K6 and K9 instead.
+// `bench check` runs document 01's cases K1 to K6 and K9, and a sequential Poisson draw and rotation, instead.
 #include <algorithm>
 #include <chrono>
 #include <cstdio>
@@ -16,13 +16,16 @@ int faults = 0;
 struct Engine {
     const char* name;
     Panel (*draw)(const Frame&, size_t, uint32_t);
-    Turn (*rotate)(const Frame&, size_t, uint32_t, const std::vector<uint32_t>&, uint32_t);
+    Turn (*rotate)(const Frame&, size_t, uint32_t, const std::vector<uint32_t>&, uint32_t, const Births&);
+    Panel (*draw_poisson)(const Frame&, size_t, uint32_t);
+    Turn (*rotate_poisson)(const Frame&, size_t, uint32_t, const std::vector<uint32_t>&, uint32_t, const Births&);
     Import (*import_lines)(const std::string&, size_t);
     Import (*import_units)(const std::string&, size_t);
 };
 
-const Engine engines[2] = {{"c++", baseline::draw, baseline::rotate, baseline::import_lines, baseline::import_units},
-                           {"rattle", proved::draw, proved::rotate, proved::import_lines, proved::import_units}};
+const Engine engines[2] = {
+    {"c++", baseline::draw, baseline::rotate, baseline::draw_poisson, baseline::rotate_poisson, baseline::import_lines, baseline::import_units},
+    {"rattle", proved::draw, proved::rotate, proved::draw_poisson, proved::rotate_poisson, proved::import_lines, proved::import_units}};
 
 // ---- what two implementations must agree on, as one number
 
@@ -88,7 +91,7 @@ void compare(const std::string& what, int runs, Call call) {
 
 std::string row(const char* what, Shape shape, uint32_t units, size_t z) {
     char text[80];
-    std::snprintf(text, sizeof text, "%-7s %-8s %6u units z = %3zu", what, name(shape), units, z);
+    std::snprintf(text, sizeof text, "%-14s %-8s %6u units z = %3zu", what, name(shape), units, z);
     return text;
 }
 
@@ -117,12 +120,32 @@ void measure_import() {
     compare("import  100 MB, 34 at the last one", 5, [&](const Engine& engine) { return engine.import_lines(broken, places); });
 }
 
+// 10,000 births in a whole frame, of which X' lets a few hundred or nearly all join: a few starts, and all 1,000 of a steady panel.
+void measure_births() {
+    constexpr size_t z = 100;
+    constexpr uint32_t units = 16384;
+    for (Shape shape : {Shape::Skewed, Shape::Steady})
+        for (const bool all : {false, true}) {
+            const Frame frame = make_frame(shape, units, z, 20160018);
+            uint64_t total = 0;
+            for (uint64_t t : frame.turnovers) total += t;
+            Births births = {z, all ? total / 10000000 + 1 : total / 5, {}};
+            for (uint32_t i = 0; i < units; i++)
+                if ((i + 1) * 10000 / units > i * 10000 / units) births.units.push_back(frame.numbers[i]);
+            const std::vector<uint32_t> old_panel = baseline::draw(frame, z, 0).numbers;
+            const uint32_t fraction = shape == Shape::Steady ? 1000 : all ? 991 : 700;
+            const std::string what = row("births", shape, units, z) + (all ? ", nearly all join" : ", a few join    ");
+            compare(what, 5, [&](const Engine& engine) { return engine.rotate(frame, z, 0, old_panel, fraction, births); });
+        }
+}
+
 void measure() {
     for (uint32_t units : {1024u, 16384u})
         for (size_t z : {40u, 100u})
             for (Shape shape : kShapes) {
                 const Frame frame = make_frame(shape, units, z, 20160018);
                 compare(row("draw", shape, units, z), 101, [&](const Engine& engine) { return engine.draw(frame, z, 123456); });
+                compare(row("draw poisson", shape, units, z), 101, [&](const Engine& engine) { return engine.draw_poisson(frame, z, 123456); });
             }
     // Half of the members leave soon; all of a steady panel never do, and every one of the 1,000 starts is tried.
     constexpr size_t z = 100;
@@ -130,8 +153,12 @@ void measure() {
         const Frame frame = make_frame(shape, 16384, z, 20160018);
         const std::vector<uint32_t> old_panel = baseline::draw(frame, z, 0).numbers;
         const uint32_t fraction = shape == Shape::Steady ? 1000 : 500;
-        compare(row("rotate", shape, 16384, z), 3, [&](const Engine& engine) { return engine.rotate(frame, z, 0, old_panel, fraction); });
+        compare(row("rotate", shape, 16384, z), 3, [&](const Engine& engine) { return engine.rotate(frame, z, 0, old_panel, fraction, {}); });
+        const std::vector<uint32_t> other_panel = baseline::draw_poisson(frame, z, 0).numbers;
+        compare(row("rotate poisson", shape, 16384, z), 3,
+                [&](const Engine& engine) { return engine.rotate_poisson(frame, z, 0, other_panel, fraction, {}); });
     }
+    measure_births();
     measure_import();
 }
 
@@ -158,11 +185,14 @@ void check(const Engine& engine) {
     expect(engine.draw(none, 2, 0).n == 2, engine, "K4");
     const Panel k5 = engine.draw({{7}, {10}, {5}}, 1, 0);
     expect(k5.n == 0 && k5.rest == 0 && k5.weights == std::vector<uint64_t>{10}, engine, "K5");
-    const Turn k6 = engine.rotate(a, 3, 0, {13, 15}, 500);
+    const Turn k6 = engine.rotate(a, 3, 0, {13, 15}, 500, {});
     expect(k6.step == 101 && k6.leavers == Numbers{15}, engine, "K6");
     expect(engine.draw(a, 3, k6.start).numbers == Numbers{11, 12, 13}, engine, "K6 new panel");
     const Frame tie = {{1, 2, 3}, {10, 10, 10}, {500000, 500000, 500000}};
     expect(engine.draw(tie, 1, 0).numbers == Numbers{1}, engine, "K9");
+    const Frame four = {{1, 2, 3, 4}, {50, 20, 50, 20}, {400000, 700000, 0, 100000}};
+    expect(engine.draw_poisson(four, 2, 0).numbers == Numbers{3, 4}, engine, "the sequential Poisson draw");
+    expect(engine.rotate_poisson(four, 2, 0, {1, 3}, 500, {}).leavers == Numbers{1}, engine, "the sequential Poisson rotation");
 }
 
 }  // namespace

@@ -74,7 +74,7 @@ int main(void) {
 
     uint32_t leavers[PANEL];
     struct vougecress_rotated turn = vougecress_rotate(numbers, FRAME, turnovers, FRAME, randoms, FRAME, PANEL, 0, panel, PANEL,
-                                                       500, leavers, PANEL);
+                                                       500, 0, 0, NULL, 0, leavers, PANEL); /* no births */
     accepted("rotation", turn.refusal);
     printf("rotation of half: step %" PRIu32 ", new start %" PRIu32 ", leavers", turn.k, turn.start);
     for (uint64_t i = 0; i < turn.count; i++) printf(" %" PRIu32, leavers[i]);

@@ -96,7 +96,9 @@ close = accepted("close", LIBRARY.vougecress_close(*record, *lent(c_uint32, [105
 print(f"close of the year: {close.figure}")
 
 leavers = lent(c_uint32, [0] * SIZE)
-turn = accepted("rotation", LIBRARY.vougecress_rotate(*FRAME, c_size_t(SIZE), c_uint32(0), *panel, c_uint32(500), *leavers))
+NO_BIRTHS = (c_size_t(0), c_uint64(0), *lent(c_uint32, []))
+rotation = (*FRAME, c_size_t(SIZE), c_uint32(0), *panel, c_uint32(500), *NO_BIRTHS, *leavers)
+turn = accepted("rotation", LIBRARY.vougecress_rotate(*rotation))
 left = " ".join(str(unit) for unit in leavers[0][: turn.count])
 print(f"rotation of half: step {turn.k}, new start {turn.start}, leavers {left}")
 panel, weights = draw(turn.start)

@@ -33,7 +33,9 @@ except OSError as error:
 library.vougecress_rotate.restype = Rotated
 frame = (*lent(c_uint32, list(TURNOVERS)), *lent(c_uint64, list(TURNOVERS.values())), *lent(c_uint32, RANDOMS))
 leavers = lent(c_uint32, [0] * len(OLD_PANEL))
-turn = library.vougecress_rotate(*frame, c_size_t(1), c_uint32(0), *lent(c_uint32, OLD_PANEL), c_uint32(1_000), *leavers)
+no_births = (c_size_t(0), c_uint64(0), *lent(c_uint32, []))
+old_panel = lent(c_uint32, OLD_PANEL)
+turn = library.vougecress_rotate(*frame, c_size_t(1), c_uint32(0), *old_panel, c_uint32(1_000), *no_births, *leavers)
 if turn.refusal:
     raise SystemExit(f"leavers.py: refusal {turn.refusal} (docs/REFUSALS.md)")
 print(f"step {turn.k}, new start {turn.start}")

@@ -3,8 +3,8 @@
  *
  * Lists are lent for the length of a call: a pointer and a count of elements. A call reads its input lists and writes only
  * what is said below. Every function takes any list and any number. It answers a result, with `refusal` 0, or one refusal
- * number of document 01, with every other field of the answer 0 (34 alone comes with an offset); after a refusal every
- * lent list is as it was.
+ * number of document 01, with every other field of the answer 0 (34 alone comes with an offset, and a year's refusal with
+ * the count of its calls); after a refusal every lent list is as it was, but for the figures of a year's accepted calls.
  * A null pointer is allowed where the count is 0. Lists that are lent to be written may not overlap other lists of the call.
  * No call asks for memory of its own but on the stack, of which it takes up to 640 KB. Nothing is kept between calls, so that
  * threads may call at once, each with its own lists.
@@ -42,7 +42,7 @@ enum vougecress_refusal {
     VOUGECRESS_REFUSED_TURNOVERS = 3,        /* a turnover 0, or total over 10^12 */
     VOUGECRESS_REFUSED_RANDOM_NUMBERS = 4,   /* random number or start over 999,999 */
     VOUGECRESS_REFUSED_PANEL_SIZE = 5,       /* z is 0, over 100 or over the units */
-    VOUGECRESS_REFUSED_RESULT_BUFFER = 6,    /* a result buffer shorter than z, or for leavers than the old panel */
+    VOUGECRESS_REFUSED_RESULT_BUFFER = 6,    /* a result buffer shorter than z, or for leavers than the old panel and the births together */
     VOUGECRESS_REFUSED_OLD_PANEL = 7,        /* f over 1,000, or old panel over 100 or not rising */
     VOUGECRESS_REFUSED_NO_STEP = 8,          /* no step rotates enough */
     VOUGECRESS_REFUSED_UNIT_LISTS = 9,       /* unit lists empty, over 100, or unequal to each other or to the record */
@@ -90,6 +90,7 @@ enum vougecress_refusal {
 #define VOUGECRESS_HIGHEST_INDEX UINT64_C(10000000000)       /* to 1,000 */
 #define VOUGECRESS_INDEX_OF_100 UINT64_C(1000000000)
 #define VOUGECRESS_MOST_CLOSES 40                            /* closes of one chain */
+#define VOUGECRESS_YEAR_PLACES 4                             /* figures of a year: three quarters and the close */
 #define VOUGECRESS_MOST_SECTORS 64                           /* sectors of a total, and of a sample; places of a sample's lists */
 #define VOUGECRESS_SECTOR_SCALE 1000000                      /* what the sector shares add to */
 #define VOUGECRESS_MOST_STREAM 32768                         /* bytes of a job stream */
@@ -148,6 +149,25 @@ struct vougecress_figure vougecress_quarter(const uint64_t *record, size_t recor
 struct vougecress_figure vougecress_close(uint64_t *record, size_t record_count,
                                           const uint32_t *relatives, size_t relatives_count);
 
+/* How far a year came: the refusal that stopped it, or 0, and the calls that were accepted, 4 without a refusal. */
+struct vougecress_came {
+    uint32_t refusal;
+    uint64_t count;
+};
+
+/*
+ * A year in one call: three quarters and the close, made one by one, each list judged when its call comes. The figures of the
+ * accepted calls are in the first `count` places of `figures`, after a refusal too (no other refused call has written), and
+ * other places stay. The record is the close's, or after a refusal as it was.
+ * Refusals 28 (fewer than 4 places for figures), before anything else, 19 included; then those of the calls, one after the other.
+ */
+struct vougecress_came vougecress_year(uint64_t *record, size_t record_count,
+                                       const uint32_t *first, size_t first_count,
+                                       const uint32_t *second, size_t second_count,
+                                       const uint32_t *third, size_t third_count,
+                                       const uint32_t *last, size_t last_count,
+                                       uint64_t *figures, size_t figures_count);
+
 /* ---- Frame ("Frame and weights", "Draw")
  *
  * A frame is three lists of equal length: unit numbers (rising), turnovers in euros and random numbers (0 to 999,999).
@@ -185,6 +205,18 @@ struct vougecress_drawn vougecress_draw(const uint32_t *numbers, size_t numbers_
                                         uint32_t *panel, size_t panel_count,
                                         uint64_t *weights, size_t weights_count);
 
+/*
+ * The same draw by sequential Poisson sampling: the n smallest keys r over turnover are sampled, equal keys by lower unit
+ * number; take-all, n, X, the weights and the refusals are those of vougecress_draw. Which draw a panel comes from is not
+ * seen from it: rotate it by the function of the same method.
+ */
+struct vougecress_drawn vougecress_draw_poisson(const uint32_t *numbers, size_t numbers_count,
+                                                const uint64_t *turnovers, size_t turnovers_count,
+                                                const uint32_t *randoms, size_t randoms_count,
+                                                size_t z, uint32_t start,
+                                                uint32_t *panel, size_t panel_count,
+                                                uint64_t *weights, size_t weights_count);
+
 /* ---- Rotation ("Rotation") */
 struct vougecress_rotated {
     uint32_t refusal;
@@ -196,7 +228,11 @@ struct vougecress_rotated {
 /*
  * Rotates an old panel (rising unit numbers, at most 100) by at least `fraction` thousandths of its members. Writes the unit
  * numbers of the leavers, by falling turnover in this frame and equal turnovers by lower unit number, into the first `count`
- * places of `leavers`, which must be at least as long as the old panel; the other places stay. Refusals 1 to 8.
+ * places of `leavers`, which must be at least as long as the old panel and the births together; the other places stay.
+ * Births (rising unit numbers of this frame) join the members where they are not take-all and
+ * r x previous_rest < 1,000,000 x previous_n x turnover, r shifted by old_start. previous_n is the previous draw's n (0 to
+ * 100) and previous_rest its X (0 to 10^12, not 0 unless previous_n is 0). Without births give 0, 0 and an empty list.
+ * A birth of the old panel is one member. Refusals 1 to 7, 25, 26, 8, in this order.
  */
 struct vougecress_rotated vougecress_rotate(const uint32_t *numbers, size_t numbers_count,
                                             const uint64_t *turnovers, size_t turnovers_count,
@@ -204,7 +240,21 @@ struct vougecress_rotated vougecress_rotate(const uint32_t *numbers, size_t numb
                                             size_t z, uint32_t old_start,
                                             const uint32_t *old_panel, size_t old_panel_count,
                                             uint32_t fraction,
+                                            size_t previous_n, uint64_t previous_rest,
+                                            const uint32_t *births, size_t births_count,
                                             uint32_t *leavers, size_t leavers_count);
+
+/* The same rotation by sequential Poisson keys: a leaver is a member that vougecress_draw_poisson does not sample.
+ * The births join by the same comparison, which no key enters. */
+struct vougecress_rotated vougecress_rotate_poisson(const uint32_t *numbers, size_t numbers_count,
+                                                    const uint64_t *turnovers, size_t turnovers_count,
+                                                    const uint32_t *randoms, size_t randoms_count,
+                                                    size_t z, uint32_t old_start,
+                                                    const uint32_t *old_panel, size_t old_panel_count,
+                                                    uint32_t fraction,
+                                                    size_t previous_n, uint64_t previous_rest,
+                                                    const uint32_t *births, size_t births_count,
+                                                    uint32_t *leavers, size_t leavers_count);
 
 /* ---- Total ("Total"): shares in millionths that add to 1,000,000, and an index a sector. Refusal 14. */
 struct vougecress_figure vougecress_total(const uint32_t *shares, size_t shares_count,

@@ -12,7 +12,7 @@ from functools import cache
 from pathlib import Path
 
 from independent import Refused
-from independent.chain import Figure, Record, Total
+from independent.chain import Figure, Record, Stopped, Total, Year
 from independent.frame import Drawn, Rotated, Taken
 from independent.sample import Shared
 from independent.register import BadLine
@@ -63,7 +63,15 @@ SIGNATURES = {
     "vougecress_total": (FigureAnswer, ("u32s", "u64s")),
     "vougecress_take_all": (TakenAnswer, ("u64s", c_size_t, "u8s")),
     "vougecress_draw": (DrawnAnswer, ("u32s", "u64s", "u32s", c_size_t, c_uint32, "u32s", "u64s")),
-    "vougecress_rotate": (RotatedAnswer, ("u32s", "u64s", "u32s", c_size_t, c_uint32, "u32s", c_uint32, "u32s")),
+    "vougecress_rotate": (
+        RotatedAnswer,
+        ("u32s", "u64s", "u32s", c_size_t, c_uint32, "u32s", c_uint32, c_size_t, c_uint64, "u32s", "u32s"),
+    ),
+    "vougecress_draw_poisson": (DrawnAnswer, ("u32s", "u64s", "u32s", c_size_t, c_uint32, "u32s", "u64s")),
+    "vougecress_rotate_poisson": (
+        RotatedAnswer,
+        ("u32s", "u64s", "u32s", c_size_t, c_uint32, "u32s", c_uint32, c_size_t, c_uint64, "u32s", "u32s"),
+    ),
     "vougecress_load": (LoadAnswer, (c_uint64, c_size_t, "u32s", "u64s", "u32s")),
     "vougecress_sample": (SampleAnswer, (c_uint64, "u64s", "u64s")),
     "vougecress_import": (RegisterAnswer, ("octets", "u32s", "u64s", "u32s")),
@@ -213,21 +221,30 @@ def take_all_entry(turnovers, z, out_marks):
     return refusal_of(answer) or Taken(answer.q, answer.n, answer.rest), marks
 
 
-def draw(numbers, turnovers, randoms, z, start, out_numbers, out_weights):
+def draw(numbers, turnovers, randoms, z, start, out_numbers, out_weights, entry="vougecress_draw"):
     answer, (*read, after_numbers, after_weights) = call(
-        "vougecress_draw", numbers, turnovers, randoms, z, start, out_numbers, out_weights
+        entry, numbers, turnovers, randoms, z, start, out_numbers, out_weights
     )
     unchanged(read, (numbers, turnovers, randoms))
     return refusal_of(answer) or Drawn(answer.n, answer.rest), after_numbers, after_weights
 
 
-def rotate(numbers, turnovers, randoms, z, old_start, old_panel, f, out_leavers):
+def rotate(
+    numbers, turnovers, randoms, z, old_start, old_panel, f, previous_n, previous_rest, births, out_leavers, entry="vougecress_rotate"
+):
     """The answer and the buffer afterwards."""
-    answer, (*read, leavers) = call(
-        "vougecress_rotate", numbers, turnovers, randoms, z, old_start, old_panel, f, out_leavers
-    )
-    unchanged(read, (numbers, turnovers, randoms, old_panel))
+    rest = (old_start, old_panel, f, previous_n, previous_rest, births, out_leavers)
+    answer, (*read, leavers) = call(entry, numbers, turnovers, randoms, z, *rest)
+    unchanged(read, (numbers, turnovers, randoms, old_panel, births))
     return refusal_of(answer) or Rotated(answer.k, answer.start, answer.count), leavers
+
+
+def draw_poisson(*arguments, **data):
+    return draw(*arguments, **data, entry="vougecress_draw_poisson")
+
+
+def rotate_poisson(*arguments, **data):
+    return rotate(*arguments, **data, entry="vougecress_rotate_poisson")
 
 
 def load(start, count, numbers, turnovers, randoms):

@@ -10,7 +10,7 @@ import commands
 import generate
 import library
 from cases.samples import WORKED
-from independent import chain, frame, load, register, sample, sheet
+from independent import Refused, chain, frame, load, register, sample, sheet
 
 TOP = Path(__file__).resolve().parent.parent
 NUMBERS, TURNOVERS = [11, 12, 13, 14, 15], [70_000_000, 10_000_000, 8_000_000, 7_000_000, 5_000_000]
@@ -40,7 +40,7 @@ def expected():
     record, figure = chain.close(record, [105_000, 98_000, 120_000])
     lines.append(f"close of the year: {figure.F}")
     job.append(f"C {figure.F}")
-    turn, leavers = frame.rotate(NUMBERS, TURNOVERS, RANDOMS, SIZE, 0, panel, 500, [0] * SIZE)
+    turn, leavers = frame.rotate(NUMBERS, TURNOVERS, RANDOMS, SIZE, 0, panel, 500, 0, 0, [], [0] * SIZE)
     left = " ".join(str(unit) for unit in leavers[: turn.count])
     lines.append(f"rotation of half: step {turn.k}, new start {turn.new_start}, leavers {left}")
     _, weights, drawn, printed = drawn_from(turn.new_start)
@@ -124,16 +124,59 @@ def test_write_stream(t):
     t.check(ran("examples/write_stream.py")[0] == 2, "wrong use")
 
 
+def test_methods(t):
+    """The worked panels of document 02, [8], by each method, as the example prints them and as README shows them."""
+    library.built()
+    lists = ([1, 2, 3, 4], [50, 20, 50, 20], [400_000, 700_000, 0, 100_000])
+    wanted = ""
+    for method, key in (("Pareto", frame.pareto_key), ("sequential Poisson", frame.poisson_key)):
+        drawn, panel, weights = frame.draw(*lists, 2, 0, [0] * 2, [0] * 2, key=key)
+        units, weights = (" ".join(map(str, values)) for values in (panel, weights))
+        wanted += f"{method}: n = {drawn.n}, X = {drawn.X}, units {units}, weights {weights}\n"
+    done = subprocess.run([sys.executable, TOP / "examples" / "methods.py"], capture_output=True, text=True)
+    t.check((done.returncode, done.stdout) == (0, wanted), "a panel by each method", done)
+    t.check(wanted in (TOP / "README.md").read_text(), "README.md shows them", wanted)
+
+
 def test_leavers(t):
     """The worked leavers of document 02, [1], as the example prints them and as README shows them."""
     library.built()
     lists = ([1, 2, 3, 4, 5, 6], [10, 30, 20, 30, 25, 15], [100_000, 50_000, 150_000, 20_000, 900_000, 950_000])
-    turn, leavers = frame.rotate(*lists, 1, 0, [1, 2, 3, 4], 1_000, [0] * 4)
+    turn, leavers = frame.rotate(*lists, 1, 0, [1, 2, 3, 4], 1_000, 0, 0, [], [0] * 4)
     lines = [f"step {turn.k}, new start {turn.new_start}"] + [f"unit {unit} turnover {lists[1][unit - 1]}" for unit in leavers]
     wanted = "".join(line + "\n" for line in lines)
     done = subprocess.run([sys.executable, TOP / "examples" / "leavers.py"], capture_output=True, text=True)
     t.check((done.returncode, done.stdout) == (0, wanted), "the leavers in order", done)
     t.check(wanted in (TOP / "README.md").read_text(), "README.md shows them", wanted)
+
+
+def test_births(t):
+    """A birth at the border of document 02, [2], as the example prints it and as README shows it."""
+    library.built()
+    wanted = ""
+    for rest in (40_000_000, 39_999_999):
+        turn, leavers = frame.rotate(NUMBERS, TURNOVERS, RANDOMS, SIZE, 0, [13, 15], 500, 2, rest, [12], [0] * 3)
+        left = " ".join(str(unit) for unit in leavers[: turn.count])
+        wanted += f"X {rest}: step {turn.k}, new start {turn.new_start}, leavers {left}\n"
+    done = subprocess.run([sys.executable, TOP / "examples" / "births.py"], capture_output=True, text=True)
+    t.check((done.returncode, done.stdout) == (0, wanted), "a birth stays out, and joins", done)
+    t.check(wanted in (TOP / "README.md").read_text(), "README.md shows them", wanted)
+
+
+def test_one_year(t):
+    """A year as the independent computation has it; README shows the accepted one; a refused year is said."""
+    library.built()
+    for relatives in (["101000", "102000", "103000", "104000"], ["101000", "102000", "24999", "104000"], ["1", "1", "1", "1"]):
+        done = subprocess.run([sys.executable, TOP / "examples" / "one_year.py", *relatives], capture_output=True, text=True)
+        opened = chain.open_chain([2_000_000], [10_000], [100_000], 10**9)
+        record, figures, answer = chain.year(opened, *([int(word)] for word in relatives), [0] * 4)
+        lines = [f"{'C' if place == 3 else 'Q'} {figures[place]}" for place in range(answer.count)]
+        wanted = "".join(line + "\n" for line in lines + [f"index {record.index}, closes {record.closes}"])
+        refused = isinstance(answer, Refused)
+        t.check((done.returncode, done.stdout, bool(done.stderr)) == (int(refused), wanted, refused), "the year", (relatives, done))
+        t.check(refused or wanted in (TOP / "README.md").read_text(), "README.md shows it", wanted)
+    done = subprocess.run([sys.executable, TOP / "examples" / "one_year.py", "1"], capture_output=True, text=True)
+    t.check((done.returncode, done.stdout) == (2, ""), "wrong use", done)
 
 
 def test_make_load(t):

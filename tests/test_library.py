@@ -5,6 +5,7 @@ from collections import Counter
 import generate
 import library
 from cases.samples import WORKED
+from cases.years import LISTS
 from independent import Refused, chain, frame, load, outside, register, sample, sheet, stream, writing
 from independent.chain import Direct, Figure, Record, within_bound
 
@@ -12,11 +13,14 @@ from independent.chain import Direct, Figure, Record, within_bound
 REFUSALS = {
     "take_all_cases": {1, 3, 5, 6},
     "draw_cases": {1, 2, 3, 4, 5, 6},
-    "rotate_cases": {1, 2, 3, 4, 5, 6, 7, 8},
+    "rotate_cases": {1, 2, 3, 4, 5, 6, 7, 25, 26, 8},
+    "poisson_draw_cases": {1, 2, 3, 4, 5, 6},
+    "poisson_rotate_cases": {1, 2, 3, 4, 5, 6, 7, 25, 26, 8},
     "open_cases": {9, 10, 11, 12, 13, 21, 22},
     "outside_cases": {9, 10, 11, 12, 13, 21, 22, 29},
     "quarter_cases": {9, 13, 19, 23, 24},
     "close_cases": {9, 13, 19, 21, 22, 23, 24},
+    "year_cases": {9, 13, 19, 21, 22, 23, 24, 28},
     "total_cases": {14},
     "load_cases": {33},
     "word_cases": {17},
@@ -60,7 +64,7 @@ def test_reference_cases(t):
     t.check(library.take_all_entry([20, 10, 10], 2, [9] * 3) == (frame.Taken(1, 1, 20), [1, 0, 0]), "K3")
     t.check(library.take_all_entry([19, 11, 10], 2, [9] * 3) == (frame.Taken(0, 2, 40), [0, 0, 0]), "K4")
     t.check(panel_of([7], [5], [0], 1, 0) == (frame.Drawn(0, 0), [7], [5]), "K5")
-    answer, buffer = library.rotate(NUMBERS, TURNOVERS, RANDOMS, 3, 0, [13, 15], 500, [1, 2, 3])
+    answer, buffer = library.rotate(NUMBERS, TURNOVERS, RANDOMS, 3, 0, [13, 15], 500, 0, 0, [], [1, 2, 3])
     t.check((answer, buffer) == (frame.Rotated(101, 101_000, 1), [15, 2, 3]), "K6")
     t.check(panel_of(NUMBERS, TURNOVERS, RANDOMS, 3, 101_000)[1] == [11, 12, 13], "K6: the new panel")
     t.check(panel_of([1, 2, 3], [10] * 3, [500_000] * 3, 1, 0)[1] == [1], "K9")
@@ -100,7 +104,11 @@ def near_rotations(seed, count):
         data = {name: case.data[name] for name in ("numbers", "turnovers", "randoms", "z")}
         drawn = library.draw(**case.data)
         old_panel = drawn[1][: case.data["z"]]
-        yield case.what, dict(data, old_start=case.data["start"], old_panel=old_panel, f=20, out_leavers=[7] * 101)
+        last = dict(old_start=case.data["start"], old_panel=old_panel, f=20)
+        yield case.what, dict(data, **last, previous_n=0, previous_rest=0, births=[], out_leavers=[7] * 101)
+        births = data["numbers"][::3]
+        half = dict(previous_n=data["z"], previous_rest=max(1, sum(data["turnovers"]) // 2))
+        yield f"{case.what}, births", dict(data, **last, **half, births=births, out_leavers=[7] * (101 + len(births)))
 
 
 def test_near_rotate(t):
@@ -114,6 +122,9 @@ def test_rotate(t):
     compared(t, "rotate_cases", 150, 4_000, lambda d: library.rotate(**d), lambda d: frame.rotate(**d))
 
 
+MEMBERSHIP = ("old_start", "old_panel", "previous_n", "previous_rest", "births")
+
+
 def test_leavers_are_not_drawn(t):
     """A draw of the library under the answered start lacks exactly the leavers among the members."""
     for case in generate.rotate_cases(t.seed + 1, t.count(60, 1_000)):
@@ -124,8 +135,55 @@ def test_leavers_are_not_drawn(t):
         room = [0] * data["z"]
         lists = (data["numbers"], data["turnovers"], data["randoms"])
         _, panel, _ = library.draw(*lists, data["z"], answer.new_start, room, room)
-        gone = {n for n in data["old_panel"] if n in data["numbers"]} - set(panel)
+        birth = frame.members_of(*lists, *(data[name] for name in MEMBERSHIP), frozenset())
+        gone = {data["numbers"][i] for i in birth} - set(panel)
         t.check(gone == set(buffer[: answer.count]), "rotate: the new panel lacks exactly the leavers", repeat=case)
+
+
+def poisson(entry, data):
+    """The independent answer of an entry by sequential Poisson keys."""
+    return entry(**data, key=frame.poisson_key)
+
+
+def test_poisson_draw(t):
+    """Sequential Poisson draws; also from the large frames and those that the search among the smallest keys could stumble on."""
+    compared(t, "poisson_draw_cases", 600, 20_000, lambda d: library.draw_poisson(**d), lambda d: poisson(frame.draw, d))
+    for name, short, long in (("large_draw_cases", 4, 60), ("near_draw_cases", 2, 80)):
+        for case in generate.GENERATORS[name](t.seed + 1, t.count(short, long)):
+            expected = poisson(frame.draw, case.data)
+            t.check(library.draw_poisson(**case.data) == expected, f"{name}: the library draws the same panel", repeat=case.what)
+
+
+def test_poisson_rotate(t):
+    compared(t, "poisson_rotate_cases", 150, 4_000, lambda d: library.rotate_poisson(**d), lambda d: poisson(frame.rotate, d))
+    for what, data in near_rotations(t.seed + 1, t.count(1, 12)):
+        t.check(library.rotate_poisson(**data) == poisson(frame.rotate, data), "near keys: the library rotates alike", repeat=what)
+
+
+def test_methods_differ(t):
+    """Document 02, [8], worked: each method draws and rotates by its own key."""
+    four = {"numbers": [1, 2, 3, 4], "turnovers": [50, 20, 50, 20], "randoms": [400_000, 700_000, 0, 100_000], "z": 2}
+    for entry, panel in ((library.draw, [1, 3]), (library.draw_poisson, [3, 4])):
+        told = entry(**four, start=0, out_numbers=[0, 0, 7], out_weights=[0, 0, 8])
+        t.check(told == (frame.Drawn(2, 140), panel + [7], [140, 140, 8]), "the worked draw", repeat=told)
+    for entry, k, leaver in ((library.rotate, 1, 3), (library.rotate_poisson, 0, 1)):
+        told = entry(**four, old_start=0, old_panel=[1, 3], f=500, previous_n=0, previous_rest=0, births=[], out_leavers=[0, 7])
+        t.check(told == (frame.Rotated(k, 1_000 * k, 1), [leaver, 7]), "the worked rotation", repeat=told)
+
+
+def test_poisson_chain(t):
+    """A chain opened with the weights of a sequential Poisson draw: every figure within the bound of the index reckoned from those weights."""
+    figures = 0
+    for case in generate.poisson_draw_cases(t.seed + 2, t.count(60, 2_000)):
+        answer, _, weights = library.draw_poisson(**case.data)
+        if isinstance(answer, Refused):
+            continue
+        W = weights[: case.data["z"]]
+        g, a = [10_000] * len(W), [100_000 + i % 7 for i in range(len(W))]
+        calls = [("quarter", [99_000 + 13 * i for i in range(len(W))]), ("close", [101_000 - 7 * i for i in range(len(W))])] * 2
+        data = {"W": W, "g": g, "a": a, "start": 10**9, "calls": calls}
+        figures += follow(t, case._replace(data=data))[0]
+    t.check(figures > 100, "many figures were compared", repeat=figures)
 
 
 def test_open(t):
@@ -151,6 +209,33 @@ def test_quarter(t):
 
 def test_close(t):
     compared(t, "close_cases", 600, 30_000, on_record(library.close), on_record(chain.close))
+
+
+def on_year(year):
+    def tried(data):
+        record = Record(data["units"], data["weights"], data["index"], data["closes"])
+        after, figures, answer = year(record, *(data[name] for name in LISTS), data["figures"])
+        return answer, figures, after
+
+    return tried
+
+
+def test_year(t):
+    compared(t, "year_cases", 400, 20_000, on_year(library.year), on_year(chain.year))
+
+
+def test_year_record_list(t):
+    """A list that is shorter than 103 places is no record: 19, after 28; one place more stays."""
+    full = [1, 10**9, 0, 2 * 10**6] + [0] * 99
+    lists = [[101_000], [102_000], [103_000], [104_000]]
+    for record, room, due in ((full[:-1], 3, 28), (full[:-1], 4, 19), (full, 3, 28)):
+        answer, (after, *_, figures) = library.call("vougecress_year", record, *lists, [7] * room)
+        t.check((answer.refusal, answer.count) == (due, 0), f"a record of {len(record)} places, {room} for figures: {due}")
+        t.check((after, figures) == (record, [7] * room), "nothing is written")
+    answer, (after, *_, figures) = library.call("vougecress_year", full + [5], *lists, [7] * 6)
+    t.check((answer.refusal, answer.count) == (0, 4), "an accepted year")
+    t.check(figures == [1_010_000_000, 1_020_000_000, 1_030_000_000, 1_040_000_000, 7, 7], "its figures")
+    t.check(after[:4] == [1, 1_040_000_000, 1, 2_080_000] and after[-1] == 5, "its record, and a place beyond")
 
 
 def test_total(t):
@@ -206,6 +291,29 @@ def openings_of(data):
     return library.open_chain(**arguments), chain.open_chain(**arguments), Direct(**arguments)
 
 
+def test_chains_with_years(t):
+    """Chains with years: digit by digit as the single calls, and every figure within the bound."""
+    figures = sum(follow(t, case)[0] for case in generate.year_chain_cases(t.seed, t.count(400, 5_000)))
+    t.check(figures > 1_000, "many figures were compared", repeat=figures)
+
+
+def follow_year(t, case, ours, theirs, lists, exact):
+    """A year through the library beside the independent single calls, up to a refused one."""
+    after, buffer, told = library.year(ours, *lists, [7] * 4)
+    made = []
+    for place, p in enumerate(lists):
+        theirs, expected = (chain.close if place == 3 else chain.quarter)(theirs, p)
+        if isinstance(expected, Refused):
+            break
+        made.append(expected.F)
+        t.check(within_bound(buffer[place], exact.D(p), exact.allowed()), "year: the figure is within the bound", repeat=case)
+        if place == 3:
+            exact.closed(p)
+    t.check((buffer, told.count, after) == (made + [7] * (4 - len(made)), len(made), theirs), "year: as its single calls", repeat=case)
+    t.check(not isinstance(expected, Refused) or told == chain.Stopped(expected.number, len(made)), "year: the refusal", repeat=case)
+    return after, theirs, len(made)
+
+
 def follow(t, case):
     """One chain through the library beside the independent one; the count of figures and of closes."""
     data = case.data
@@ -215,6 +323,10 @@ def follow(t, case):
         return 0, 0
     figures = 0
     for name, p in data["calls"]:
+        if name == "year":
+            ours, theirs, made = follow_year(t, case, ours, theirs, p, exact)
+            figures += made
+            continue
         ours, told = getattr(library, name)(ours, p)
         theirs, expected = getattr(chain, name)(theirs, p)
         t.check((told, ours) == (expected, theirs), f"chain: a {name} and the record after it", repeat=case)

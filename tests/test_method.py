@@ -103,58 +103,80 @@ class TakeAll(Example):
 class Draw(Example):
     """numbers, turnovers, randoms, z, start, panel, weights"""
 
+    key = staticmethod(frame.pareto_key)
+    ours = staticmethod(library.draw)
+
     def reckon(self):
         register = self.lists("numbers", "turnovers", "randoms")
         z, start = self.one("z"), self.one("start")
-        expected = frame.draw(*register, z, start, *self.lists("panel", "weights"))
-        self.same(library.draw(*register, z, start, *self.lists("panel", "weights")), expected)
+        expected = frame.draw(*register, z, start, *self.lists("panel", "weights"), key=self.key)
+        self.same(self.ours(*register, z, start, *self.lists("panel", "weights")), expected)
         answer, panel, weights = expected
         refused = isinstance(answer, Refused)
         buffers = facts_of(panel=panel, weights=weights)
         self.answers(answer, *buffers, **({} if refused else {"n": answer.n, "X": answer.X}))
-        self.facts = [] if refused else keys(*register, start, frame.take_all(register[1], z))
+        self.facts = [] if refused else keys(*register, start, frame.take_all(register[1], z), self.key)
 
 
-def keys(numbers, turnovers, randoms, start, stratum):
+class PoissonDraw(Draw):
+    """numbers, turnovers, randoms, z, start, panel, weights"""
+
+    key = staticmethod(frame.poisson_key)
+    ours = staticmethod(library.draw_poisson)
+
+
+def keys(numbers, turnovers, randoms, start, stratum, key):
     """A line for each unit: that it is take-all, or its shifted number and its key."""
     for place, number in enumerate(numbers):
         if place in stratum.group:
             yield f"unit {number}: take-all"
         else:
             r = frame.shifted(randoms[place], start)
-            yield f"unit {number}: r {r}, key {frame.key(r, turnovers[place], stratum.n, stratum.X)}"
+            yield f"unit {number}: r {r}, key {key(r, turnovers[place], stratum.n, stratum.X)}"
 
 
 class Rotate(Example):
-    """numbers, turnovers, randoms, z, start, old, f, leavers"""
+    """numbers, turnovers, randoms, z, start, old, f, leavers; previous-n, previous-X and births, or none of the three"""
+
+    key = staticmethod(frame.pareto_key)
+    ours = staticmethod(library.rotate)
 
     def reckon(self):
         register = self.lists("numbers", "turnovers", "randoms")
         numbers, turnovers, _ = register
         z, start, f = self.one("z"), self.one("start"), self.one("f")
         old, before = self.lists("old", "leavers")
-        answer, after = frame.rotate(*register, z, start, old, f, before)
-        self.same(library.rotate(*register, z, start, old, f, before), (answer, after))
+        births = self.given.get("births", [])
+        previous = [self.one(name) if name in self.given else 0 for name in ("previous-n", "previous-X")]
+        answer, after = frame.rotate(*register, z, start, old, f, *previous, births, before, key=self.key)
+        self.same(self.ours(*register, z, start, old, f, *previous, births, before), (answer, after))
         if isinstance(answer, Refused):
             self.answers(answer, said("leavers", after))
         else:
             self.answers(answer, said("leavers", after), k=answer.k, start=answer.new_start, count=answer.count)
         if not isinstance(answer, Refused) or answer.number == 8:
             stratum = frame.take_all(turnovers, z)
-            members = [n for i, n in enumerate(numbers) if n in old and i not in stratum.group]
+            places = frame.members_of(*register, start, old, *previous, births, stratum.group)
+            members = [numbers[i] for i in places]
             self.facts = facts_of(members=members, required=frame.required_leavers(f, len(members)))
             self.facts += [self.step(register, start, members, stratum, k) for k in range(frame.LAST_STEP + 1)]
 
-    @staticmethod
-    def step(register, start, members, stratum, k):
+    def step(self, register, start, members, stratum, k):
         new = (start + frame.STEP * k) % frame.CIRCLE
-        sampled = sorted(register[0][i] for i in frame.sampled(*register, new, stratum))
+        sampled = sorted(register[0][i] for i in frame.sampled(*register, new, stratum, self.key))
         leavers = [number for number in members if number not in sampled]
         return f"step {k}: start {new}, {said('sampled', sampled)}, {said('leave', leavers)}"
 
 
+class PoissonRotate(Rotate):
+    """numbers, turnovers, randoms, z, start, old, f, leavers"""
+
+    key = staticmethod(frame.poisson_key)
+    ours = staticmethod(library.rotate_poisson)
+
+
 class Chain(Example):
-    """W, g, a and `open START`, or units, v, C, closes and `record`; then `quarter` and `close` with their relatives"""
+    """W, g, a and `open START`, or units, v, C, closes and `record`; then `quarter` and `close` with their relatives, and `year` by its lists"""
 
     record = None
     direct = None
@@ -168,6 +190,8 @@ class Chain(Example):
             self.hand_in()
         elif word in ("quarter", "close"):
             self.call(word, numbers)
+        elif word == "year":
+            self.year()
         else:
             super().take(line)
 
@@ -203,6 +227,15 @@ class Chain(Example):
             return
         self.answers(answer, F=answer.F)
         self.facts = self.state() + self.reckoned(before, p, answer.F) + self.beside(word, p, answer.F)
+
+    def year(self):
+        lists = self.lists("first", "second", "third", "last", "figures")
+        expected = chain.year(self.record, *lists)
+        self.same(library.year(self.record, *lists), expected)
+        self.record, figures, answer = expected
+        number = answer.number if isinstance(answer, Refused) else 0
+        self.answer = facts_of(refusal=number, count=answer.count, figures=figures)
+        self.facts = self.state()
 
     def reckoned(self, before, p, F):
         v = before.weights[: before.units]
@@ -330,6 +363,8 @@ KINDS = {
     "take-all": TakeAll,
     "draw": Draw,
     "rotate": Rotate,
+    "draw-poisson": PoissonDraw,
+    "rotate-poisson": PoissonRotate,
     "chain": Chain,
     "total": Total,
     "sample": Sample,
@@ -472,6 +507,11 @@ def number_of(answer):
     return Refused(answer.number) if isinstance(answer, Refused) else answer
 
 
+def year_answer(data):
+    lists = (data[name] for name in ("first", "second", "third", "last", "figures"))
+    return chain.year(record_of(data), *lists)[2]
+
+
 ENTRIES = {
     "take-all": (generate.take_all_cases, lambda data: frame.take_all_entry(**data)[0]),
     "draw": (generate.draw_cases, lambda data: frame.draw(**data)[0]),
@@ -479,6 +519,7 @@ ENTRIES = {
     "open": (generate.open_cases, lambda data: chain.open_chain(**data)),
     "quarter": (generate.quarter_cases, lambda data: chain.quarter(record_of(data), data["p"])[1]),
     "close": (generate.close_cases, lambda data: chain.close(record_of(data), data["p"])[1]),
+    "year": (generate.year_cases, lambda data: number_of(year_answer(data))),
     "total": (generate.total_cases, lambda data: chain.total(**data)),
     "read": (generate.reader_cases, lambda data: stream.read_command(data["part"])[0]),
     "load": (generate.load_cases, lambda data: load.load(**data)[0]),
@@ -508,7 +549,8 @@ def test_orders_of_the_entries(t):
                 pairs.add((case.intends, int(also[1])))
         order = stated.get(entry, [])
         t.check(met == set(order), f"METHOD.md: the refusals of {entry} are {sorted(met)}", order)
-        if entry not in ("read", "read-all"):  # one fault each: a part can hardly have two, and in a stream the first command that has one decides
+        # one fault each: a part can hardly have two; in a stream the first command that has one decides, and in a year the first call
+        if entry not in ("read", "read-all", "year"):
             wrong = sorted(pairs ^ set(combinations(order, 2)))
             t.check(not wrong, f"METHOD.md: of any two refusals of {entry} the first is answered", wrong)
 
@@ -579,6 +621,8 @@ WORDS = {
     21: [LIMIT["leastWeight"]],
     22: [LIMIT["mostWeight"]],
     23: INDEX,
+    25: [LIMIT["mostPanel"], LIMIT["mostTurnover"], 0],
+    26: [LIMIT["mostFrame"]],
     31: [LIMIT["mostSectors"], LIMIT["mostInterviews"]],
     32: [LIMIT["nameColumns"], LIMIT["lowestPrintable"], LIMIT["highestPrintable"], *INDEX, LIMIT["lineBytes"]],
     33: [LIMIT["stateRange"], 0, LIMIT["mostFrame"]],
@@ -602,7 +646,7 @@ def test_refusals_in_the_text(t):
     """The pages' sentences have the same limits; 9 is also that of a call, which has none."""
     sentences = re.findall(r"^- (\d+): (.*)$", TEXT, re.MULTILINE)
     numbers = [int(number) for number, _ in sentences]
-    t.check(numbers == [*range(1, 7), 6, 7, 8, *range(9, 14), 21, 22, 9, 13, 21, 22, 23, 24], "METHOD.md: each in its order", numbers)
+    t.check(numbers == [*range(1, 7), 6, 7, 25, 26, 8, *range(9, 14), 21, 22, 9, 13, 21, 22, 23, 24], "METHOD.md: each in its order", numbers)
     for number, words in sentences:
         wanted = [WORDS.get(int(number), []), []] if number == "9" else [WORDS.get(int(number), [])]
         t.check(values_in(words) in wanted, f"METHOD.md: the limits of {number}", words)

@@ -75,8 +75,9 @@ def test_k3_k4_k5(t):
 
 
 def test_k6(t):
-    answer = rotate(NUMBERS, TURNOVERS, RANDOMS, 3, 0, [13, 15], 500, [1, 2, 3])
-    t.check(answer == (Rotated(101, 101_000, 1), [15, 2, 3]), "K6", answer)
+    for previous_n, previous_rest in ((0, 0), (2, 30_000_000)):
+        answer = rotate(NUMBERS, TURNOVERS, RANDOMS, 3, 0, [13, 15], 500, previous_n, previous_rest, [], [1, 2, 3])
+        t.check(answer == (Rotated(101, 101_000, 1), [15, 2, 3]), "K6, without births", answer)
     drawn = draw(NUMBERS, TURNOVERS, RANDOMS, 3, 101_000, [0] * 3, [0] * 3)[1]
     t.check(drawn == [11, 12, 13], "K6 new panel", drawn)
 

@@ -10,7 +10,7 @@ REFUSALS = {
     3: ("Turnovers", "a turnover 0, or total over 10^12"),
     4: ("RandomNumbers", "random number or start over 999,999"),
     5: ("PanelSize", "z is 0, over 100 or over the units"),
-    6: ("ResultBuffer", "a result buffer shorter than z, or for leavers than the old panel"),
+    6: ("ResultBuffer", "a result buffer shorter than z, or for leavers than the old panel and the births together"),
     7: ("OldPanel", "f over 1,000, or old panel over 100 or not rising"),
     8: ("NoStep", "no step rotates enough"),
     9: ("UnitLists", "unit lists empty, over 100, or unequal to each other or to the record"),

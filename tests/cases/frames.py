@@ -1,4 +1,6 @@
-"""Cases of draw, the take-all entry and rotation."""
+"""Cases of draw and rotation, by either key, and of the take-all entry."""
+
+from math import gcd
 
 from . import (
     HALF,
@@ -434,6 +436,9 @@ def take_all_cases(rng, count):
 
 # Rotation
 
+# A rotation by document 01 alone.
+NO_BIRTHS = {"previous_n": 0, "previous_rest": 0, "births": []}
+
 
 def likely_panel(data, start):
     """About the panel of a draw, by rough keys: an old panel that has members to lose."""
@@ -467,6 +472,23 @@ def an_old_panel(rng, data):
     return likely
 
 
+def some_births(rng, data):
+    """n', X' and births: none, a few or all units, and X' often where one of them just joins or just does not."""
+    numbers, turnovers = data["numbers"], data["turnovers"]
+    births = sorted(rng.sample(numbers, rng.choice([0, 0, 1, len(numbers) // 2, len(numbers)])))
+    n = rng.choice([0, 1, 2, 7, min(len(numbers), 100), 100])
+    rest = rng.choice([1, sum(turnovers) // 2 + 1, sum(turnovers), 10**12])
+    if births and rng.random() < 0.6:
+        place = numbers.index(rng.choice(births))
+        r = (data["randoms"][place] - data["old_start"]) % 1_000_000
+        rest = 1_000_000 * n * turnovers[place] // max(1, r) + rng.choice([-1, 0, 0, 1])
+    if n == 0 and rng.random() < 0.5:
+        rest = 0
+    else:
+        rest = min(max(rest, 1), 10**12)
+    return {"previous_n": n, "previous_rest": rest, "births": births}
+
+
 def a_rotation(rng, units=None):
     """Arguments of a rotation that nothing but 8 can refuse."""
     data = a_frame(rng, units or rng.choice([1, 2, 3, 5, 8, 13, 25, 40]))
@@ -477,7 +499,8 @@ def a_rotation(rng, units=None):
     data["old_start"] = a_start(rng, data["randoms"])
     data["old_panel"] = an_old_panel(rng, data)
     data["f"] = rng.choice([0, 1, 100, 200, 250, 333, 500, 667, 999, 1_000])
-    data["out_leavers"] = junk(rng, len(data["old_panel"]) + rng.choice([0, 0, 1, 6]), U32)
+    data.update(some_births(rng, data))
+    data["out_leavers"] = junk(rng, len(data["old_panel"]) + len(data["births"]) + rng.choice([0, 0, 1, 6]), U32)
     return data
 
 
@@ -486,7 +509,9 @@ def a_sound_rotation(rng):
     data = a_rotation(rng, rng.randrange(3, 13))
     data["z"] = rng.randrange(1, len(data["numbers"]))
     data["old_panel"] = likely_panel(data, data["old_start"])
-    data["out_leavers"] = junk(rng, len(data["old_panel"]), U32)
+    data["births"] = sorted(rng.sample(data["numbers"], 2))
+    data.update(previous_n=1, previous_rest=sum(data["turnovers"]))
+    data["out_leavers"] = junk(rng, len(data["old_panel"]) + 2, U32)
     data["f"] = 0
     return data
 
@@ -495,32 +520,50 @@ def all_must_leave(rng, data):
     """Every unit is in the old panel and all shall leave, though n of them are always sampled."""
     data["old_panel"] = list(data["numbers"])
     data["f"] = 1_000
-    data["out_leavers"] = junk(rng, len(data["old_panel"]), U32)
+    data["out_leavers"] = junk(rng, len(data["old_panel"]) + len(data["births"]), U32)
 
 
 def panel_not_rising(rng, data):
     """An old panel with one number twice."""
     data["old_panel"] = [3, 3]
-    data["out_leavers"] = junk(rng, 2, U32)
+    data["out_leavers"] = junk(rng, 2 + len(data["births"]), U32)
 
 
 def panel_falls(rng, data):
     """An old panel whose last number is lower."""
     data["old_panel"] = [3, 9, 4]
-    data["out_leavers"] = junk(rng, 3, U32)
+    data["out_leavers"] = junk(rng, 3 + len(data["births"]), U32)
 
 
 def panel_too_long(rng, data):
     """An old panel of 101 units."""
     data["old_panel"] = list(range(101))
-    data["out_leavers"] = junk(rng, 101, U32)
+    data["out_leavers"] = junk(rng, 101 + len(data["births"]), U32)
+
+
+def births_are(births):
+    """A fault: these births, made from the frame, with room for them."""
+
+    def spoil(rng, data):
+        data["births"] = births(data["numbers"])
+        data["out_leavers"] = junk(rng, len(data["old_panel"]) + len(data["births"]), U32)
+
+    return spoil
+
+
+def absent_unit(numbers):
+    """A number that no unit of the frame has."""
+    return next(number for number in range(len(numbers) + 1) if number not in numbers)
 
 
 ROTATE_FAULTS = {
     **frame_faults("old_start"),
     6: {
-        "leavers' buffer one short": drop_last("out_leavers"),
+        "leavers' buffer one short": lambda rng, data: data.update(
+            out_leavers=data["out_leavers"][: len(data["old_panel"]) + len(data["births"]) - 1]
+        ),
         "no leavers' buffer": put("out_leavers", []),
+        "room for the old panel alone": lambda rng, data: data["out_leavers"].__delitem__(slice(len(data["old_panel"]), None)),
     },
     7: {
         "f is 1,001": put("f", 1_001),
@@ -528,6 +571,20 @@ ROTATE_FAULTS = {
         "old panel with equal numbers": panel_not_rising,
         "old panel falls": panel_falls,
         "old panel of 101": panel_too_long,
+    },
+    25: {
+        "n' is 101": put("previous_n", 101),
+        "n' is 2^32 - 1": put("previous_n", U32),
+        "X' is 10^12 + 1": put("previous_rest", 10**12 + 1),
+        "X' is 2^64 - 1": put("previous_rest", U64),
+        "X' is 0 and n' is not": lambda rng, data: data.update(previous_n=1, previous_rest=0),
+        "n' is 101 without births": lambda rng, data: data.update(previous_n=101, births=[]),
+    },
+    26: {
+        "births with equal numbers": births_are(lambda numbers: [numbers[0]] * 2),
+        "births that fall": births_are(lambda numbers: [numbers[2], numbers[0]]),
+        "a birth that is not in the frame": births_are(lambda numbers: sorted([*numbers[:2], absent_unit(numbers)])),
+        "16,385 births": births_are(lambda numbers: list(range(16_385))),
     },
     8: {"all must leave": all_must_leave},
 }
@@ -538,6 +595,7 @@ def rotation_limits(rng):
     nine = nine_units(rng)
     base = {name: nine[name] for name in ("numbers", "turnovers", "randoms", "z")}
     base.update(old_start=0, old_panel=[104], f=0, out_leavers=junk(rng, 120, U32))
+    base.update(previous_n=0, previous_rest=0, births=[])
     yield from frame_limits(base, "old_start")
     room = base["out_leavers"]
     panel = list(range(1_000, 1_101))
@@ -555,6 +613,79 @@ def rotation_limits(rng):
     last = changed(few, randoms=[998_500, 999_000, 999_500])
     never = changed(few, randoms=[998_500, 998_900, 998_950])
     yield "only the last step", (0, last), (8, never)
+    yield from births_limits(base)
+
+
+def births_limits(base):
+    """Both sides of each limit of 6, 25 and 26; 25 is judged without births too."""
+    room = base["out_leavers"]
+    one = changed(base, previous_n=2, previous_rest=5, births=[101, 104, 108])
+    yield "buffer as both lists", (0, changed(one, out_leavers=room[:4])), (6, changed(one, out_leavers=room[:3]))
+    yield "n' is 100", (0, changed(base, previous_n=100, previous_rest=1)), (25, changed(base, previous_n=101, previous_rest=1))
+    yield "X' is 10^12", (0, changed(one, previous_rest=10**12)), (25, changed(one, previous_rest=10**12 + 1))
+    yield "X' is 0", (0, changed(one, previous_n=0, previous_rest=0)), (25, changed(one, previous_n=1, previous_rest=0))
+    yield "X' without n'", (0, changed(one, previous_n=0, previous_rest=7)), (25, changed(base, previous_n=7, previous_rest=0))
+    yield "births rise", (0, changed(one, births=[100, 101])), (26, changed(one, births=[101, 101]))
+    yield "births of the frame", (0, changed(one, births=[100, 108])), (26, changed(one, births=[100, 109]))
+    yield "the first unit", (0, changed(one, births=[100])), (26, changed(one, births=[99]))
+    every = changed(one)
+    crowd(every, 16_384)
+    every.update(births=list(every["numbers"]), out_leavers=list(range(16_385)), f=0, previous_n=100, previous_rest=1)
+    yield "a whole frame of births", (0, every), (26, changed(every, births=every["births"] + [16_384], out_leavers=[0] * 16_386))
+
+
+FRAME_A = (
+    [11, 12, 13, 14, 15],
+    [70_000_000, 10_000_000, 8_000_000, 7_000_000, 5_000_000],
+    [300_000, 500_000, 200_000, 900_000, 100_000],
+)
+WIDE = (
+    [1, 2, 3, 4, 5, 6],
+    [184_467_440_738, *[170_000_000_000] * 4, 135_532_559_262],
+    [999_000, 1_000, 2_000, 3_000, 4_000, 5_000],
+)
+# Births at their borders: what, lists, z, old start, old panel, f, (n', X', births), buffer. REQUESTS has their answers.
+WORKED_BIRTHS = [
+    ("an equal comparison stays out", FRAME_A, 3, 0, [13, 15], 500, (2, 40_000_000, [12]), [7] * 3),
+    ("one euro less joins", FRAME_A, 3, 0, [13, 15], 500, (2, 39_999_999, [12]), [7] * 3),
+    ("1,000,000 x n' x turnover passes 64 bits", WIDE, 1, 0, [2], 1_000, (100, 10**12, [1]), [7] * 2),
+    ("a birth of the old panel is one member", FRAME_A, 3, 0, [13, 15], 500, (2, 30_000_000, [13]), [7] * 3),
+    ("and is one where the comparison fails", FRAME_A, 3, 0, [13, 15], 1_000, (1, 10**12, [13]), [7] * 3),
+    ("a take-all birth stays out", FRAME_A, 3, 0, [13, 15], 500, (2, 30_000_000, [11]), [7] * 3),
+    ("r is shifted by the old start: joins", FRAME_A, 3, 400_000, [13, 15], 1_000, (2, 199_999_999, [12]), [7] * 3),
+    ("r is shifted by the old start: stays out", FRAME_A, 3, 400_000, [13, 15], 1_000, (2, 200_000_000, [12]), [7] * 3),
+    ("25 is judged without births", FRAME_A, 3, 0, [13, 15], 500, (101, 1, []), [7] * 3),
+    ("X' without n'", FRAME_A, 3, 0, [13, 15], 500, (0, 5, [12, 14]), [7] * 4),
+    ("25 before 26", FRAME_A, 3, 0, [13, 15], 500, (101, 1, [99]), [7] * 3),
+    ("7 before 25", FRAME_A, 3, 0, [15, 13], 500, (101, 1, [99]), [7] * 3),
+    ("6 before 7", FRAME_A, 3, 0, [15, 13], 500, (101, 1, [99]), [7] * 2),
+    ("26 before 8", FRAME_A, 3, 400_000, [13, 15], 1_000, (2, 1, [99]), [7] * 3),
+]
+WORKED_ANSWERS = [
+    ((101, 101_000, 1), [15, 7, 7]),
+    ((201, 201_000, 2), [13, 15, 7]),
+    ((2, 2_000, 2), [1, 2]),
+    ((101, 101_000, 1), [15, 7, 7]),
+    ((201, 201_000, 2), [13, 15, 7]),
+    ((101, 101_000, 1), [15, 7, 7]),
+    (8, [7] * 3),
+    ((0, 400_000, 2), [13, 15, 7]),
+    (25, [7] * 3),
+    ((101, 101_000, 1), [15, 7, 7, 7]),
+    (25, [7] * 3),
+    (7, [7] * 3),
+    (6, [7] * 2),
+    (26, [7] * 3),
+]
+
+
+def worked_births():
+    """The worked cases as (what it comes to, what, data): 0 or a refusal's number."""
+    names = ("numbers", "turnovers", "randoms")
+    for (what, lists, z, old_start, old_panel, f, (n, rest, births), room), (told, _) in zip(WORKED_BIRTHS, WORKED_ANSWERS):
+        data = dict(zip(names, map(list, lists)), z=z, old_start=old_start, old_panel=list(old_panel), f=f)
+        data.update(previous_n=n, previous_rest=rest, births=list(births), out_leavers=list(room))
+        yield (told if isinstance(told, int) else 0), what, data
 
 
 def frame_a(rng, old_start, old_panel, f):
@@ -567,6 +698,7 @@ def frame_a(rng, old_start, old_panel, f):
         "old_start": old_start,
         "old_panel": old_panel,
         "f": f,
+        **NO_BIRTHS,
         "out_leavers": junk(rng, len(old_panel) + 2, U32),
     }
 
@@ -576,7 +708,18 @@ def hundred_members(rng, f, sizes=range(900, 1_100)):
     data = {"numbers": list(range(300)), "turnovers": [rng.choice(sizes) for _ in range(300)]}
     data.update(randoms=[rng.randrange(1_000_000) for _ in range(300)], z=100, old_start=999_000, f=f)
     data["old_panel"] = likely_panel(data, 999_000)
-    data["out_leavers"] = junk(rng, 100, U32)
+    data.update(NO_BIRTHS, out_leavers=junk(rng, 100, U32))
+    return data
+
+
+def many_births(rng, f, turnovers, previous_n):
+    """An old panel of 100 and 600 births in a frame of 900 units; n' decides whether a few or nearly all join."""
+    data = {"numbers": list(range(900)), "turnovers": [rng.choice(turnovers) for _ in range(900)]}
+    data.update(randoms=[rng.randrange(1_000_000) for _ in range(900)], z=100, old_start=700_000, f=f)
+    data["old_panel"] = likely_panel(data, 700_000)
+    births = sorted(rng.sample(range(900), 600))
+    data.update(previous_n=previous_n, previous_rest=sum(data["turnovers"]) // 2, births=births)
+    data["out_leavers"] = junk(rng, 100 + 600, U32)
     return data
 
 
@@ -590,6 +733,7 @@ def phoned(rng, turnovers, room):
         "old_start": 0,
         "old_panel": [1, 2, 3, 4],
         "f": 1_000,
+        **NO_BIRTHS,
         "out_leavers": room or junk(rng, 5, U32),
     }
 
@@ -604,6 +748,7 @@ def two_equal_units(rng, first_random, second_random):
         "old_start": 0,
         "old_panel": [5],
         "f": 1_000,
+        **NO_BIRTHS,
         "out_leavers": junk(rng, 2, U32),
     }
 
@@ -627,14 +772,95 @@ def special_rotations(rng):
     yield "leavers of one size", phoned(rng, [25] * 6, None)
     for sizes in ([1_000], [999, 1_000], range(900, 1_100)):
         yield f"many leavers of {len(sizes)} sizes", hundred_members(rng, 500, sizes)
+    yield "a few of many births join", many_births(rng, 100, range(900, 1_100), 20)
+    yield "nearly all of many births join", many_births(rng, 100, [999, 1_000], 100)
 
 
 @cases
 def rotate_cases(rng, count):
-    """Rotation: means to hit 1 to 8. A random case may be refused by 8 alone."""
+    """Rotation: means to hit 1 to 7, 25, 26 and 8. A random case may be refused by 8 alone."""
     yield from limits_of(rotation_limits(rng))
+    yield from worked_births()
     for what, data in special_rotations(rng):
         yield 0, what, data
+    yield 8, "equal keys at every start: the lower number never leaves", two_equal_units(rng, 400_000, 400_000)
+    yield from faults_of(rng, a_sound_rotation, ROTATE_FAULTS)
+    for _ in range(count):
+        yield None, "random", a_rotation(rng)
+
+
+# Sequential Poisson (document 02, [8]): the key is r over turnover
+
+
+def three_units(rng, turnovers, randoms):
+    """A draw of one of three units; the third is never drawn."""
+    return {
+        "numbers": [5, 6, 7],
+        "turnovers": turnovers,
+        "randoms": randoms,
+        "z": 1,
+        "start": 0,
+        "out_numbers": junk(rng, 2, U32),
+        "out_weights": junk(rng, 2, U64),
+    }
+
+
+def neighbouring_fractions(rng):
+    """(r, turnover) of two units whose cross products differ by 1, the second key the smaller: no double tells them apart."""
+    r_one, r_two = rng.sample(range(100_000, 1_000_000), 2)
+    while gcd(r_one, r_two) != 1:
+        r_two = rng.randrange(100_000, 1_000_000)
+    two = pow(r_one, -1, r_two) + r_two * rng.randrange(10**10 // r_two, 10**11 // r_two)
+    return (r_one, (r_one * two - 1) // r_two), (r_two, two)
+
+
+def poisson_ties(rng):
+    """Equal keys of unlike units, and keys that are nearly equal, each in both orders; keys of 0."""
+    for scale in (1, 10**6, 10**11):
+        yield "equal keys", three_units(rng, [2 * scale, 4 * scale, 2 * scale], [250_000, 500_000, 999_999])
+        yield "equal keys", three_units(rng, [4 * scale, 2 * scale, 2 * scale], [500_000, 250_000, 999_999])
+        yield "keys of 0", three_units(rng, [scale, 3 * scale, 2 * scale], [0, 0, 1])
+    for _ in range(6):
+        (r_one, one), (r_two, two) = neighbouring_fractions(rng)
+        yield "nearly equal keys", three_units(rng, [one, two, 1], [r_one, r_two, 999_999])
+        yield "nearly equal keys", three_units(rng, [two, one, 1], [r_two, r_one, 999_999])
+
+
+def four_units(rng, panel):
+    """Document 02, [8], worked: the draw of two is 3 and 4, and by Pareto keys 1 and 3."""
+    four = {"numbers": [1, 2, 3, 4], "turnovers": [50, 20, 50, 20], "randoms": [400_000, 700_000, 0, 100_000], "z": 2}
+    return changed(frame_a(rng, 0, panel, 500), **four)
+
+
+@cases
+def poisson_draw_cases(rng, count):
+    """Sequential Poisson draw: means to hit 1, 2, 3, 4, 5 and 6."""
+    nine = nine_units(rng)
+    yield 0, "whole parts are all 0", three_units(rng, [1_000_000, 900_000, 800_000], [900_000, 500_000, 300_000])
+    yield 0, "close keys", three_units(rng, [1_500_001, 3, 1_500_002], [999_998, 2, 999_999])
+    four = four_units(rng, [])
+    yield 0, "not the Pareto panel", changed(nine, **{name: four[name] for name in ("numbers", "turnovers", "randoms", "z")})
+    for what, data in poisson_ties(rng):
+        yield 0, what, data
+    for data in tie_draws(rng):
+        yield 0, "equal or nearly equal Pareto keys", data
+    yield from limits_of(frame_limits(nine, "start"))
+    for name in ("out_numbers", "out_weights"):
+        exact = changed(nine, **{name: nine[name][:2]})
+        short = changed(nine, **{name: nine[name][:1]})
+        yield from limits_of([(f"{name} of z places", (0, exact), (6, short))])
+    yield from faults_of(rng, lambda rng: a_draw(rng, rng.randrange(3, 30)), DRAW_FAULTS)
+    for _ in range(count):
+        yield 0, "random", a_draw(rng)
+
+
+@cases
+def poisson_rotate_cases(rng, count):
+    """Rotation by sequential Poisson keys: means to hit 1 to 8, 25 and 26. Special and random cases may be refused by 8."""
+    yield 0, "not the Pareto leaver", four_units(rng, [1, 3])
+    yield from limits_of(rotation_limits(rng))
+    for what, data in special_rotations(rng):
+        yield None, what, data
     yield 8, "equal keys at every start: the lower number never leaves", two_equal_units(rng, 400_000, 400_000)
     yield from faults_of(rng, a_sound_rotation, ROTATE_FAULTS)
     for _ in range(count):

@@ -1,4 +1,4 @@
-"""Document 01: "Frame and weights", "Draw" and "Rotation".
+"""Document 01: "Frame and weights", "Draw" and "Rotation"; document 02, [1], [2] and, with the sequential Poisson key, [8].
 
 Lists are handed over as Python lists. An entry never changes a list it was
 handed: buffers come back beside the answer as new lists.
@@ -92,9 +92,14 @@ def shifted(random, start):
     return r
 
 
-def key(r, turnover, n, X):
+def pareto_key(r, turnover, n, X):
     """Formula 22 without the common factor n."""
     return Fraction(r * (X - n * turnover), (CIRCLE - r) * turnover)
+
+
+def poisson_key(r, turnover, n, X):
+    """Document 02, [8]: "Its key is r over turnover (section 4.2, method 2, without common factors)"."""
+    return Fraction(r, turnover)
 
 
 def order(its_key, number):
@@ -102,7 +107,7 @@ def order(its_key, number):
     return (its_key, number)
 
 
-def sampled(numbers, turnovers, randoms, start, stratum):
+def sampled(numbers, turnovers, randoms, start, stratum, key):
     """Places of the n sampled units under a start; under cut-off there is none."""
     if stratum.n == 0:
         return frozenset()
@@ -151,15 +156,15 @@ def size_is_wrong(z, units):
     return z == 0 or z > MOST_PANEL or z > units
 
 
-def draw(numbers, turnovers, randoms, z, start, out_numbers, out_weights):
-    """Answer, and both buffers as they are afterwards."""
+def draw(numbers, turnovers, randoms, z, start, out_numbers, out_weights, key=pareto_key):
+    """Answer, and both buffers as they are afterwards; the Pareto draw unless another key is given."""
     refusal = frame_refusal(numbers, turnovers, randoms, z, start)
     if refusal is None and (len(out_numbers) < z or len(out_weights) < z):
         refusal = 6
     if refusal is not None:
         return Refused(refusal), list(out_numbers), list(out_weights)
     stratum = take_all(turnovers, z)
-    chosen = stratum.group | sampled(numbers, turnovers, randoms, start, stratum)
+    chosen = stratum.group | sampled(numbers, turnovers, randoms, start, stratum, key)
     # The frame rises, so places in rising order give unit numbers in rising order.
     places = sorted(chosen)
     panel = [numbers[i] for i in places]
@@ -196,33 +201,63 @@ def required_leavers(f, members):
     return -((-share.numerator) // share.denominator)
 
 
-def rotation_refusal(old_panel, f, out_leavers):
-    """6 (for leavers) or 7, or None."""
-    if len(out_leavers) < len(old_panel):
+def rotation_refusal(numbers, old_panel, f, previous_n, previous_rest, births, out_leavers):
+    """6 (for leavers), 7, 25 or 26, in this order, or None.
+
+    Document 02, [2]: 6 "counts the lengths of both lists, old panel and births, added"; 25 and 26 "come after 7 and
+    before 8".
+    """
+    if len(out_leavers) < len(old_panel) + len(births):
         return 6
     if f > WHOLE_FRACTION or len(old_panel) > MOST_PANEL or not rising(old_panel):
         return 7
+    if previous_n > MOST_PANEL or previous_rest > MOST_TURNOVER or (previous_rest == 0 and previous_n != 0):
+        return 25
+    if len(births) > MOST_UNITS or not rising(births) or not set(births) <= set(numbers):
+        return 26
     return None
 
 
-def rotate(numbers, turnovers, randoms, z, old_start, old_panel, f, out_leavers):
+def joins(random, turnover, old_start, previous_n, previous_rest):
+    """ "r x X' < 1,000,000 x n' x its turnover, with r shifted by the old start" """
+    return shifted(random, old_start) * previous_rest < 1_000_000 * previous_n * turnover
+
+
+def members_of(numbers, turnovers, randoms, old_start, old_panel, previous_n, previous_rest, births, group):
+    """Places of the members, each once: the old panel's units outside take-all, and the births outside it that join."""
+    old, born = set(old_panel), set(births)
+    members = []
+    for i in range(len(numbers)):
+        if i in group:
+            continue
+        if numbers[i] in old:
+            members.append(i)
+        elif numbers[i] in born and joins(randoms[i], turnovers[i], old_start, previous_n, previous_rest):
+            members.append(i)
+    return members
+
+
+def rotate(
+    numbers, turnovers, randoms, z, old_start, old_panel, f, previous_n, previous_rest, births, out_leavers, key=pareto_key
+):
     """Answer, and the leavers' buffer as it is afterwards.
 
     Document 02, [1]: "Write leavers by falling turnover in the new frame, equal turnovers by lower unit number."
+    [2]: "new enterprises join the old panel before it rotates"; previous_n is n', previous_rest X'.
     """
     refusal = frame_refusal(numbers, turnovers, randoms, z, old_start)
     if refusal is None:
-        refusal = rotation_refusal(old_panel, f, out_leavers)
+        refusal = rotation_refusal(numbers, old_panel, f, previous_n, previous_rest, births, out_leavers)
     if refusal is not None:
         return Refused(refusal), list(out_leavers)
     stratum = take_all(turnovers, z)
-    # "members are old panel units that are in the frame and not take-all now"
-    old = set(old_panel)
-    members = [i for i in range(len(numbers)) if numbers[i] in old and i not in stratum.group]
+    members = members_of(
+        numbers, turnovers, randoms, old_start, old_panel, previous_n, previous_rest, births, stratum.group
+    )
     required = required_leavers(f, len(members))
     for k in range(LAST_STEP + 1):
         start = (old_start + STEP * k) % CIRCLE
-        stay = sampled(numbers, turnovers, randoms, start, stratum)
+        stay = sampled(numbers, turnovers, randoms, start, stratum, key)
         leavers = [i for i in members if i not in stay]
         if len(leavers) >= required:
             phoned = [numbers[i] for i in by_falling_key(turnovers, leavers)]

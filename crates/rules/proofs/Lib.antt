@@ -8,3 +8,5 @@ pub mod Reference
 pub mod Border
 pub mod Years
 pub mod Leavers
+pub mod NoBirths
+pub mod Births

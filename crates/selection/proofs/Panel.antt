@@ -1,5 +1,5 @@
 -- Document 01, "Draw": the panel, for an arbitrary group and an arbitrary order of the units outside it. Exactly n are sampled, exactly z are in
--- the panel, and its numbers rise where the frame's do. The crate `draw` cites these for the take-all group and the order by Pareto keys.
+-- the panel, and its numbers rise where the frame's do. The crate `draw` cites these for the take-all group and the order by the keys of either method.
 use mathlib.Core.Path.{_≡_, refl, _∙_}
 use mathlib.Core.Bool.{Bool, true, not}
 use mathlib.Core.List.{List, append-nil}
