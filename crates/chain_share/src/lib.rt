@@ -1,7 +1,5 @@
 // Document 02, [7]: an opening with an outside share G. What is refused of its input, 9 to 13 and 29, and its u, in which no product is made before 29 has
 // judged G.
-use chain_open_input;
-use chain_sampled;
 use limits::SHARE_SCALE;
 use refusals::Refusal;
 use refusals::Verdict;

@@ -46,7 +46,10 @@ returns-2 c = rw (tested (c .before), eq-eqb _ 0 (c .if2 .taken))
 
 returns-3 : tie.Need-returns-3
 unfolding _or_
-returns-3 c = rw (tested (c .before .before), ne-eqb _ 0 (c .before .if2 .left), lt-ltb _ _ (c .if3 .taken))
+returns-3 c =
+    let at-1 = c .before .before in
+    let domain = start (at-1 .before) .args .domain in
+    rw (tested at-1, ne-eqb _ 0 (c .before .if2 .left), lt-ltb shareScale domain (c .if3 .taken))
 
 returns-4 : tie.Need-returns-4
 unfolding _or_

@@ -53,7 +53,8 @@ loop-again c =
     let l = s .before .loop in
     let p = start s .pre in
     let h = s .loop-test .taken in
-    let at = each-at _ _ _ _ (l .i) h (p .marked .marks) (p .marked .shares) in
+    let a = start s .args in
+    let at = each-at (sharedUnit (a .inner) (a .t)) (a .marks .now) (a .w .now) (a .g .now) (l .i) h (p .marked .marks) (p .marked .shares) in
     (omega arith, laid-next (l .i) _ _ _ _ _ (l .inv .1) (long _ _ _ _ _ _ p) h (room _ _ _ _ _ _ p) (c .unit .ensures ∙ sym at))
 
 returns : tie.Need-returns Inv-loop μ-loop
