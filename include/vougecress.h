@@ -133,6 +133,25 @@ uint32_t vougecress_open(const uint64_t *weights, size_t weights_count,
                          uint64_t *record, size_t record_count);
 
 /*
+ * Opens a chain with a domain share G from the national accounts (document 02, [7]): as vougecress_open, with `sampled`, a mark
+ * a unit, and `domain`, which is G in ten-thousandths. A mark that is not 0 says that the unit was SAMPLED, and 0 that it is
+ * take-all. The marks of vougecress_take_all say the contrary, 1 for take-all, and stand by place in the frame and not in the
+ * panel: handed over as they are they give other weights, and no refusal shows it. For each unit of a drawn panel, `sampled` is
+ * 1 less the take-all mark at the unit's place in the frame (examples/open_outside.py).
+ * With n the count of marked units, absent ones among them, X their W, alike for all, and T the sum of their shares, a sampled
+ * unit's u is floor(floor(n x X x G / 10,000) x g / T); a take-all unit keeps its u. With no unit marked G is not read.
+ * Writes the first 103 places of `record`. Answers 0, or 6 (record shorter than 103), 9 (also for marks of another length), 10,
+ * 11, 12, 13, 29, 21 or 22; 29 comes before 21.
+ */
+uint32_t vougecress_open_outside(const uint64_t *weights, size_t weights_count,
+                                 const uint32_t *shares, size_t shares_count,
+                                 const uint32_t *relatives, size_t relatives_count,
+                                 uint64_t start,
+                                 const uint8_t *sampled, size_t sampled_count,
+                                 uint32_t domain,
+                                 uint64_t *record, size_t record_count);
+
+/*
  * What the relatives of a quarter and of a close are measured against: prices at the opening or, after a close, at the last
  * accepted close, and never at the quarter before. A price that rises by 2 percent in one quarter and by 2 percent more in the
  * next has the relatives 102,000 and 104,040; 102,000 twice is the usual mistake, and gives the same figure twice.
@@ -190,6 +209,7 @@ struct vougecress_drawn {
  * first turnovers_count places of `marks`. Refusals 1, 3, 5, 6 (marks shorter than the turnovers).
  * Which units of a panel are take-all: those whose place in the frame is marked by the call with the same turnovers and z
  * (every marked unit is in the panel; examples/example.c). The weight does not tell, since n x turnover can equal X.
+ * vougecress_open_outside wants marks that say the contrary, 1 for a sampled unit, in the order of the panel.
  */
 struct vougecress_taken vougecress_take_all(const uint64_t *turnovers, size_t turnovers_count, size_t z,
                                             uint8_t *marks, size_t marks_count);

@@ -18,6 +18,7 @@ from cases.frames import (
     take_all_cases,
 )
 from cases.loads import load_cases
+from cases.outsides import outside_cases, outside_chain_cases
 from cases.streams import LISTING, many_draw_cases, reader_cases, stream_cases, word_cases
 from cases.samples import sample_cases
 from cases.registers import register_cases
@@ -40,6 +41,8 @@ __all__ = [
     "many_draw_cases",
     "near_draw_cases",
     "open_cases",
+    "outside_cases",
+    "outside_chain_cases",
     "poisson_draw_cases",
     "poisson_rotate_cases",
     "quarter_cases",

@@ -56,6 +56,7 @@ ListedAnswer = answer_type(("count", c_uint64))
 # name -> answer type and parameter types; a list is a pointer and a count
 SIGNATURES = {
     "vougecress_open": (c_uint32, ("u64s", "u32s", "u32s", c_uint64, "u64s")),
+    "vougecress_open_outside": (c_uint32, ("u64s", "u32s", "u32s", c_uint64, "u8s", c_uint32, "u64s")),
     "vougecress_quarter": (FigureAnswer, ("u64s", "u32s")),
     "vougecress_close": (FigureAnswer, ("u64s", "u32s")),
     "vougecress_year": (YearAnswer, ("u64s", "u32s", "u32s", "u32s", "u32s", "u64s")),
@@ -167,6 +168,16 @@ def open_chain(W, g, a, start):
     before = [7] * (FIELDS_BEFORE_WEIGHTS + PLACES)
     number, (*inputs, after) = call("vougecress_open", W, g, a, start, before)
     unchanged(inputs, (W, g, a))
+    if number == 0:
+        return as_record(after)
+    return Refused(number) if after == before else ("a refused open wrote its record", number)
+
+
+def open_outside(W, g, a, start, marks, G):
+    """The same with an outside share."""
+    before = [7] * (FIELDS_BEFORE_WEIGHTS + PLACES)
+    number, (*inputs, after) = call("vougecress_open_outside", W, g, a, start, marks, G, before)
+    unchanged(inputs, (W, g, a, marks))
     if number == 0:
         return as_record(after)
     return Refused(number) if after == before else ("a refused open wrote its record", number)

@@ -11,8 +11,9 @@ import definitions
 from cases.frames import WORKED_BIRTHS
 from cases.samples import WORKED
 from definitions import number_list
-from independent import Refused, chain, frame, load, register, sample, sheet, stream, writing
+from independent import Refused, chain, frame, load, outside, register, sample, sheet, stream, writing
 from cases import registers, years
+from cases.outsides import outside_cases
 
 
 def judged(value, given):
@@ -89,6 +90,21 @@ def open_cases(W, g, a, start):
     yield f"openAnswer {number_list(W)} {number_list(g)} {number_list(a)} {start}", judged(told, record_text)
 
 
+def panel_text(W, g, a, marks, G):
+    return f"(withDomain {G} " + " ".join(map(number_list, (marks, W, g, a))) + ")"
+
+
+def outside_open_cases(W, g, a, start, marks, G):
+    told = outside.open_outside(W, g, a, start, marks, G)
+    yield f"panelAnswer {panel_text(W, g, a, marks, G)} {start}", judged(told, record_text)
+
+
+def outside_direct_cases(W, g, a, start, marks, G, closes, p):
+    """D after some closes of a panel with an outside share, and what the bound allows."""
+    exact, state = outside.OutsideDirect(W, g, a, start, marks, G), f"directOpen {panel_text(W, g, a, marks, G)} {start}"
+    yield from exact_cases(exact, state, closes, p)
+
+
 def call_cases(record, p):
     for name, call in (("quarter", chain.quarter), ("close", chain.close)):
         after, told = call(record, p)
@@ -115,7 +131,10 @@ def year_cases(record, lists, buffer):
 def direct_cases(W, g, a, start, closes, p):
     """D after some closes, by cross multiplication with the fraction."""
     exact = chain.Direct(W, g, a, start)
-    state = f"directOpen {number_list(W)} {number_list(g)} {number_list(a)} {start}"
+    yield from exact_cases(exact, f"directOpen (plain {number_list(W)} {number_list(g)} {number_list(a)}) {start}", closes, p)
+
+
+def exact_cases(exact, state, closes, p):
     for q in closes:
         exact.closed(q)
         state = f"directAfter ({state}) (Call.close {number_list(q)})"
@@ -339,6 +358,32 @@ def open_suite(rng, count):
         g = faulty(rng, g, g[:-1], [10_001] + g[1:], [0] * units)
         a = faulty(rng, a, a[:-1], [24_999] + a[1:], [400_001] + a[1:], [0] + a[1:], [1] + a[1:])
         yield from open_cases(W, g, a, start)
+
+
+def outside_suite(rng, count):
+    """Document 02's worked openings with G, the orders and limits, random ones, and the exact side."""
+    for case in outside_cases(rng.randrange(1_000), 0):
+        if len(case.data["W"]) <= 6:
+            yield from outside_open_cases(**case.data)
+    for _ in range(count):
+        units = rng.randint(1, 4)
+        X = rng.choice([2 * 10**6, 10**8, 10**9 + 7, 2 * 10**12])
+        marks = [rng.choice([0, 1, 1, 9]) for _ in range(units)]
+        W = [X if mark else rng.choice([10**6, 10**8, 10**9 + 7]) for mark in marks]
+        g = [rng.choice([10_000, 10_000, 5_000, 9_999, 1, 0]) for _ in range(units)]
+        a = [rng.choice([100_000, 25_000, 400_000, 123_457]) if share else 0 for share in g]
+        G = faulty(rng, rng.choice([1, 3_333, 9_999, 10_000]), 0, 10_001)
+        marks = faulty(rng, marks, marks[:-1], marks + [0], [0] * units, [1] * units)
+        start = faulty(rng, 10**9, 10**8 - 1)
+        a = faulty(rng, a, a[:-1], [24_999] + a[1:], [1] + a[1:])
+        yield from outside_open_cases(W, g, a, start, marks, G)
+    for _ in range(count // 3):
+        marks = [0] + [rng.choice([0, 1, 5]) for _ in range(rng.randint(0, 2))]
+        X = rng.randrange(10**6, 10**12)
+        g = [10_000] + [rng.choice([1, 9_999, 10_000]) for _ in marks[1:]]
+        a, p, *closes = [[rng.randrange(25_000, 400_001) for _ in g] for _ in range(2 + rng.randint(0, 2))]
+        W = [X if mark else rng.randrange(10**6, 10**12) for mark in marks]
+        yield from outside_direct_cases(W, g, a, rng.randrange(10**8, 10**10 + 1), marks, rng.randrange(1, 10_001), closes, p)
 
 
 def call_suite(rng, count):
@@ -673,6 +718,7 @@ SUITES = {
     "order": lambda rng, times: order_suite(rng, 30 * times),
     "rotation": lambda rng, times: rotation_suite(rng, 40 * times),
     "open": lambda rng, times: open_suite(rng, 90 * times),
+    "outside": lambda rng, times: outside_suite(rng, 60 * times),
     "call": lambda rng, times: call_suite(rng, 90 * times),
     "direct": lambda rng, times: direct_suite(rng, 15 * times),
     "events": lambda rng, times: event_suite(rng, 25 * times),

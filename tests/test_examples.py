@@ -10,7 +10,7 @@ import commands
 import generate
 import library
 from cases.samples import WORKED
-from independent import Refused, chain, frame, load, register, sample, sheet
+from independent import Refused, chain, frame, load, outside, register, sample, sheet
 
 TOP = Path(__file__).resolve().parent.parent
 NUMBERS, TURNOVERS = [11, 12, 13, 14, 15], [70_000_000, 10_000_000, 8_000_000, 7_000_000, 5_000_000]
@@ -209,6 +209,28 @@ def test_share_sample(t):
     for words, status in ((("10", "6,11"), 1), (("6401", "1,1"), 1), (("10",), 2), (("10", "6"), 2), (("-1", "6,1"), 2), (("10", "x,1"), 2)):
         done = subprocess.run([sys.executable, TOP / "examples" / "share_sample.py", *words], capture_output=True, text=True)
         t.check((done.returncode, done.stdout, bool(done.stderr)) == (status, "", True), "a fault is said", (words, done))
+def test_open_outside(t):
+    """A panel is drawn, marked and opened with G; README shows one; a fault ends with a message and a status."""
+    library.built()
+    _, panel, weights = frame.draw(NUMBERS, TURNOVERS, RANDOMS, SIZE, 0, [0] * SIZE, [0] * SIZE)
+    _, group = frame.take_all_entry(TURNOVERS, SIZE, [0] * len(NUMBERS))
+    marks = [0 if group[NUMBERS.index(unit)] else 1 for unit in panel]
+    script = TOP / "examples" / "open_outside.py"
+    for words in (["3000", "10000", "5000", "2500"], ["10000", "10000", "10000", "0"]):
+        G, *g = map(int, words)
+        record = outside.open_outside(weights, g, [100_000 if share else 0 for share in g], 10**9, marks, G)
+        rows = zip(panel, weights, marks, record.weights)
+        wanted = "".join(f"{unit} {W} {'sampled' if mark else 'take-all'} {v}\n" for unit, W, mark, v in rows)
+        done = subprocess.run([sys.executable, script, *words], capture_output=True, text=True)
+        t.check((done.returncode, done.stdout) == (0, wanted), "an opening with an outside share", (words, done.stdout, done.stderr))
+        if G == 3000:
+            readme = (TOP / "README.md").read_text()
+            t.check(wanted in readme and " ".join(words) in readme, "README.md shows the opening", wanted)
+    for words, status in ((["0", "10000", "5000", "2500"], 1), (["3000", "10000", "0", "0"], 1), (["3000"], 2), (["x", "1", "1", "1"], 2)):
+        done = subprocess.run([sys.executable, script, *words], capture_output=True, text=True)
+        t.check((done.returncode, done.stdout, bool(done.stderr)) == (status, "", True), "a fault is said", (words, done))
+
+
 def drawn(folder, name, text, *words):
     """What examples/draw_register.py answers to a register."""
     (folder / name).write_bytes(text)

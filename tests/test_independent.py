@@ -12,7 +12,9 @@ from itertools import islice
 import generate
 from cases.frames import WORKED_ANSWERS, worked_births
 from independent import Refused
+from cases.outsides import WORKED as OUTSIDE_WORKED
 from independent.chain import Direct, Figure, Record, Total, close, open_chain, quarter, total, within_bound, year
+from independent.outside import OutsideDirect, inner_floor, open_outside, shared_weights
 from independent.frame import Drawn, Rotated, Taken, draw, pareto_key, poisson_key, rotate, take_all, take_all_entry
 from independent.stream import COMMANDS, END, Job, front_word, read_command, run, step
 from independent.sample import share
@@ -54,6 +56,10 @@ def try_rotate(data):
 
 def try_open(data):
     return open_chain(**data), None
+
+
+def try_outside(data):
+    return open_outside(**data), None
 
 
 def record_of(data):
@@ -129,6 +135,7 @@ ENTRIES = {
     "poisson_draw_cases": (try_poisson_draw, {1, 2, 3, 4, 5, 6}, 60, 3_000),
     "poisson_rotate_cases": (try_poisson_rotate, {1, 2, 3, 4, 5, 6, 7, 25, 26, 8}, 30, 1_000),
     "open_cases": (try_open, {9, 10, 11, 12, 13, 21, 22}, 300, 20_000),
+    "outside_cases": (try_outside, {9, 10, 11, 12, 13, 21, 22, 29}, 300, 20_000),
     "quarter_cases": (try_quarter, {9, 13, 19, 23, 24}, 300, 20_000),
     "close_cases": (try_close, {9, 13, 19, 21, 22, 23, 24}, 300, 20_000),
     "year_cases": (try_year, {9, 13, 19, 21, 22, 23, 24, 28}, 200, 10_000),
@@ -194,7 +201,7 @@ def test_generators_repeat(t):
 
 
 WIDE = {"turnovers", "previous_rest", "out_weights", "W", "weights", "index", "indices", "count", "interviews", "strengths", "minima", "amounts", "figures"}
-WIDE_START = ("open_cases", "chain_cases", "year_chain_cases", "load_cases")
+WIDE_START = ("open_cases", "outside_cases", "chain_cases", "outside_chain_cases", "year_chain_cases", "load_cases")
 
 
 def widest(data, name):
@@ -486,6 +493,31 @@ def test_open_laws(t):
             t.check(record.weights[i] == v, f"weight {i}", case)
 
 
+def test_outside_worked(t):
+    """Document 02's worked openings with G, weight by weight."""
+    for what, ((W, g, a, marks, G), weights) in OUTSIDE_WORKED.items():
+        record = open_outside(W, g, a, 10**9, marks, G)
+        t.check(record.weights == weights + [0] * (100 - len(weights)), what, record)
+
+
+def test_outside_laws(t):
+    """With no sampled unit the opening is the one without G; a take-all unit keeps its v; sampled u add to no more than the inner floor."""
+    for case in generate.outside_cases(t.seed, t.count(300, 10_000)):
+        W, g, a, start, marks, G = (case.data[name] for name in ("W", "g", "a", "start", "marks", "G"))
+        answer = open_outside(**case.data)
+        if len(marks) == len(W) and not any(marks):
+            t.check(answer == open_chain(W, g, a, start), "no sampled unit: the opening without G", case)
+        if isinstance(answer, Refused):
+            continue
+        for i in range(len(W)):
+            if not marks[i]:
+                u = math.floor(Fraction(W[i] * g[i], 10_000))
+                t.check(answer.weights[i] == math.floor(Fraction(u * a[i], 100_000)), f"take-all unit {i}", case)
+        if any(marks):
+            u = shared_weights(W, g, marks, G)
+            t.check(sum(u[i] for i in range(len(W)) if marks[i]) <= inner_floor(W, marks, G), "the sampled u", case)
+
+
 def law_of_calls(t, case):
     """Quarter and close give one F; a close moves C, v and the count, and nothing else."""
     record, p = record_of(case.data), case.data["p"]
@@ -552,13 +584,19 @@ def single_calls(record, kind, p):
             return
 
 
+def opened_by(data):
+    """The record of a chain's opening, with or without an outside share, and the exact side beside it."""
+    opening = {name: value for name, value in data.items() if name != "calls"}
+    if "G" in data:
+        return open_outside(**opening), OutsideDirect(**opening)
+    return open_chain(**opening), Direct(**opening)
+
+
 def follow(t, case):
     """Make the calls of a chain; hand back each answer, with D and the floors allowed where there is a D."""
     data = case.data
-    opening = (data["W"], data["g"], data["a"], data["start"])
-    record = open_chain(*opening)
+    record, direct = opened_by(data)
     t.check(isinstance(record, Record), "the opening is accepted", case)
-    direct = Direct(*opening)
     for kind, p in data["calls"]:
         for name, relatives, after, answer in single_calls(record, kind, p):
             if isinstance(answer, Refused):
@@ -598,6 +636,22 @@ def test_demand_3_with_years(t):
             t.check(within_bound(answer.F, D, allowed), f"F = {answer.F}, D = {D}, allowed = {allowed}", case)
             figures += 1
     t.check(stopped > 100 and figures > 5_000, "many figures, and refused calls", (stopped, figures))
+
+
+def test_demand_3_outside(t):
+    """The same from openings with an outside share, where m + 2 floors are allowed."""
+    refusals, steps, figures = set(), set(), 0
+    for case in generate.outside_chain_cases(t.seed, t.count(1_000, 20_000)):
+        for answer, D, allowed in follow(t, case):
+            if D is None:
+                refusals.add(answer.number)
+                continue
+            t.check(within_bound(answer.F, D, allowed), f"F = {answer.F}, D = {D}, allowed = {allowed}", case)
+            steps.add(allowed)
+            figures += 1
+    t.check(refusals >= {9, 13, 23, 24}, "the chains meet refusals of a call", refusals)
+    t.check(steps == set(range(3, 43)), "figures at each count of closes", steps)
+    t.check(figures > 5_000, "many figures", figures)
 
 
 # Both floors of the second weight lose nearly a millionth, and it moves apart from

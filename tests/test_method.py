@@ -12,7 +12,7 @@ from pathlib import Path
 
 import generate
 import library
-from independent import Refused, chain, frame, load, register, sample, sheet, stream, writing
+from independent import Refused, chain, frame, load, outside, register, sample, sheet, stream, writing
 
 TOP = Path(__file__).resolve().parent.parent
 TEXT = (TOP / "docs" / "METHOD.md").read_text()
@@ -176,7 +176,7 @@ class PoissonRotate(Rotate):
 
 
 class Chain(Example):
-    """W, g, a and `open START`, or units, v, C, closes and `record`; then `quarter` and `close` with their relatives, and `year` by its lists"""
+    """W, g, a (and marks, G) and `open START`, or units, v, C, closes and `record`; then `quarter` and `close` with their relatives, and `year` by its lists"""
 
     record = None
     direct = None
@@ -201,15 +201,26 @@ class Chain(Example):
 
     def open(self, start):
         W, g, a = self.lists("W", "g", "a")
-        answer = chain.open_chain(W, g, a, start)
-        self.same(library.open_chain(W, g, a, start), answer)
-        self.facts = facts_of(u=[chain.domain_weight(W[i], g[i]) for i in range(len(W))])
+        answer, u, direct = self.opened(W, g, a, start)
+        self.facts = facts_of(u=u)
         if isinstance(answer, Refused):
             self.answers(answer)
         else:
-            self.record, self.direct = answer, chain.Direct(W, g, a, start)
+            self.record, self.direct = answer, direct(W, g, a, start)
             self.answers(answer, v=answer.weights[: answer.units])
             self.facts += facts_of(e=self.direct.e) + self.state()
+
+    def opened(self, W, g, a, start):
+        """The answer, the u, and what makes the exact side; with marks, by the opening with G."""
+        if "marks" not in self.given:
+            answer = chain.open_chain(W, g, a, start)
+            self.same(library.open_chain(W, g, a, start), answer)
+            return answer, [chain.domain_weight(W[i], g[i]) for i in range(len(W))], chain.Direct
+        rest = self.given["marks"], self.one("G")
+        answer = outside.open_outside(W, g, a, start, *rest)
+        self.same(library.open_outside(W, g, a, start, *rest), answer)
+        u = [] if isinstance(answer, Refused) else outside.shared_weights(W, g, *rest)
+        return answer, u, lambda *opening: outside.OutsideDirect(*opening, *rest)
 
     def hand_in(self):
         v = self.given["v"]
@@ -517,6 +528,7 @@ ENTRIES = {
     "draw": (generate.draw_cases, lambda data: frame.draw(**data)[0]),
     "rotate": (generate.rotate_cases, lambda data: frame.rotate(**data)[0]),
     "open": (generate.open_cases, lambda data: chain.open_chain(**data)),
+    "open with G": (generate.outside_cases, lambda data: outside.open_outside(**data)),
     "quarter": (generate.quarter_cases, lambda data: chain.quarter(record_of(data), data["p"])[1]),
     "close": (generate.close_cases, lambda data: chain.close(record_of(data), data["p"])[1]),
     "year": (generate.year_cases, lambda data: number_of(year_answer(data))),
@@ -623,6 +635,7 @@ WORDS = {
     23: INDEX,
     25: [LIMIT["mostPanel"], LIMIT["mostTurnover"], 0],
     26: [LIMIT["mostFrame"]],
+    29: [0, LIMIT["shareScale"], 0],
     31: [LIMIT["mostSectors"], LIMIT["mostInterviews"]],
     32: [LIMIT["nameColumns"], LIMIT["lowestPrintable"], LIMIT["highestPrintable"], *INDEX, LIMIT["lineBytes"]],
     33: [LIMIT["stateRange"], 0, LIMIT["mostFrame"]],
@@ -646,7 +659,7 @@ def test_refusals_in_the_text(t):
     """The pages' sentences have the same limits; 9 is also that of a call, which has none."""
     sentences = re.findall(r"^- (\d+): (.*)$", TEXT, re.MULTILINE)
     numbers = [int(number) for number, _ in sentences]
-    t.check(numbers == [*range(1, 7), 6, 7, 25, 26, 8, *range(9, 14), 21, 22, 9, 13, 21, 22, 23, 24], "METHOD.md: each in its order", numbers)
+    t.check(numbers == [*range(1, 7), 6, 7, 25, 26, 8, *range(9, 14), 21, 22, 9, 29, 21, 9, 13, 21, 22, 23, 24], "METHOD.md: each in its order", numbers)
     for number, words in sentences:
         wanted = [WORDS.get(int(number), []), []] if number == "9" else [WORDS.get(int(number), [])]
         t.check(values_in(words) in wanted, f"METHOD.md: the limits of {number}", words)

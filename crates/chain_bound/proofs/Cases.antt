@@ -13,8 +13,9 @@ use Rattle.rules.specs.Refusals.{Judged, refuse, _then_}
 use Rattle.rules.specs.Lists.{sum, products, scaled, anyOf, anyPair}
 use Rattle.rules.specs.Chain.{Chain, Call, relatives, held, shared, badIndex, badRelative, badWeight, badUnits, badOpenLists, badBase, badShares, openInputRefusal, weightRefusal}
 use Rattle.rules.specs.Chain.{openRefusal, openRecord, openAnswer, link, figureAt, broken, callInputRefusal, figureRefusal, callRefusal, callAnswer, after}
+use Rattle.rules.specs.Panel.{plain, panelAnswer}
 use Rattle.rules.specs.Events.{Event, Made, eventOf, singles, events}
-use Rattle.rules.specs.Direct.{Direct, exactOpen, exactMoved, directOpen, numerator, denominator, Within, AllWithin}
+use Rattle.rules.specs.Direct.{Direct, exactOpen, panelExact, exactMoved, directOpen, numerator, denominator, Within, AllWithin}
 use Rattle.rules.proofs.Tests.{never}
 use Rattle.chain_bound.specs.Sentence.{closesIn, directTop, directBottom}
 use Rattle.chain_bound.proofs.Demand3.{demand3-calls}
@@ -46,7 +47,7 @@ abbrev record₀ : Chain
 record₀ = openRecord (shared ws wholes) ones start
 
 abbrev direct₀ : Direct
-direct₀ = directOpen ws wholes ones start
+direct₀ = directOpen (plain ws wholes ones) start
 
 -- ---- an open whose two floors both lose nearly 1 of a weight of a million
 abbrev lowBase : List ℕ
@@ -59,7 +60,7 @@ abbrev lowUpdates : List ℕ
 lowUpdates = 100100 ∷ 100000 ∷ []
 
 abbrev lowDirect : Direct
-lowDirect = directOpen lowBase lowShares lowUpdates start
+lowDirect = directOpen (plain lowBase lowShares lowUpdates) start
 
 -- the relatives pull the two units as far apart as they may
 abbrev apart : List ℕ
@@ -104,7 +105,8 @@ answered =
 
 -- what the theorem says of the listing's two figures
 pub listing-within : AllWithin direct₀ (Event.answered firstClose 1062000000 ∷ Event.answered lastQuarter 1063799994 ∷ [])
-listing-within = rw (answered .listing-events) at (demand3-calls ws wholes ones start record₀ (answered .listing-opens) listing)
+unfolding openAnswer panelAnswer
+listing-within = rw (answered .listing-events) at (demand3-calls (plain ws wholes ones) start record₀ (answered .listing-opens) listing)
 
 -- "Here D is 1,063,800,000": the last quarter's, spelt out
 abbrev es : List ℕ
@@ -126,17 +128,17 @@ refused-changes-nothing r call list n e = rw e
 -- ---- what the bound rules out
 -- the bound cannot have m for m + 1
 pub low-needs-m-plus-one : Within 1001198920 (numerator lowDirect apart) (denominator lowDirect apart) (lowDirect .m) → ⊥
-unfolding sum products exactOpen exactMoved directOpen numerator denominator
+unfolding sum products exactOpen panelExact exactMoved directOpen numerator denominator
 low-needs-m-plus-one w = never _ _ refl (w .notBelow)
 
 -- "keeping old weights at close gives 1,063,593,000 in the last line"
 pub old-weights-fall : AllWithin direct₀ (Event.answered firstClose 1062000000 ∷ Event.answered lastQuarter 1063593000 ∷ []) → ⊥
-unfolding sum products exactOpen exactMoved directOpen numerator denominator
+unfolding sum products exactOpen panelExact exactMoved directOpen numerator denominator
 old-weights-fall w = never _ _ refl (w .1 .0 .notBelow)
 
 -- one figure for every call
 pub fixed-figure-falls : (f : ℕ) → AllWithin direct₀ (Event.answered firstClose f ∷ Event.answered lastQuarter f ∷ []) → ⊥
-unfolding sum products exactOpen exactMoved directOpen numerator denominator
+unfolding sum products exactOpen panelExact exactMoved directOpen numerator denominator
 fixed-figure-falls f w = go (decLe f 1063000000)
   where
     go : Dec (f ≤ 1063000000) → ⊥
@@ -146,7 +148,7 @@ fixed-figure-falls f w = go (decLe f 1063000000)
 -- the program whose second close does not move its record
 pub stopped-closes-fall : AllWithin direct₀ (eventOf firstClose (callAnswer record₀ firstClose) ∷ eventOf secondClose (callAnswer record₁ secondClose)
     ∷ eventOf lastQuarter (callAnswer record₁ lastQuarter) ∷ []) → ⊥
-unfolding sum products exactOpen exactMoved directOpen numerator denominator
+unfolding sum products exactOpen panelExact exactMoved directOpen numerator denominator
 stopped-closes-fall w = never _ _ refl ((rw (answered .stopped-events) at w) .1 .1 .0 .notBelow)
 
 -- A chain that only refuses has no figure to bound: it meets demand 3, and falls by demand 2, since its answers are not the defined ones.

@@ -1,44 +1,51 @@
--- Demand 3 of document 01, undivided, with the years of document 02, [6]: whatever list of quarters, closes and years follows an accepted open, every
--- figure that is answered is within the bound of the exact direct index D. By induction over the list, with `Carried` from call to call.
+-- Demand 3 of document 01, undivided, with the years of document 02, [6]: whatever list of quarters, closes and years follows an accepted open, with or
+-- without an outside share ([7]), every figure that is answered is within the bound of the exact direct index D. By induction over the list, with `Carried` from call to call.
 use mathlib.Core.Path.{_≡_, refl, sym, ap, subst}
-use Prim.Native.Nat.{ℕ, zero, suc}
+use Prim.Native.Nat.{ℕ, zero, suc, _<_}
 use mathlib.Core.List.{List, [], _∷_, _++_, map}
 use native.Mathlib.Omega.{arith}
-use Rattle.rules.specs.Limits.{shareScale}
 use Rattle.rules.specs.Refusals.{Judged, judged, stays}
-use Rattle.rules.specs.Lists.{products}
-use Rattle.rules.specs.Chain.{Chain, Call, relatives, shared, openRefusal, openRecord, openAnswer, figureOf, callRefusal, callAnswer, accepted, after}
+use Rattle.rules.specs.Chain.{Chain, Call, relatives, openRecord, figureOf, callRefusal, callAnswer, accepted, after}
+use Rattle.rules.specs.Panel.{Outside, Panel, sampledSize, panelShared, panelRefusal, panelRecord, panelAnswer}
 use Rattle.rules.specs.Year.{fourCalls, yearCalls, afterAll}
 use Rattle.rules.specs.Events.{Event, Made, eventOf, singles, cameTo, leftBy, events}
-use Rattle.rules.specs.Direct.{Direct, directOpen, directAfter, AllWithin}
+use Rattle.rules.specs.Direct.{Direct, panelExact, extraFor, extraBy, directOpen, directAfter, AllWithin}
 use Rattle.rules.proofs.Refusals.{given-tells}
 use Rattle.rules.proofs.Years.{year-left}
-use Rattle.chain_bound.specs.Losses.{parts, weightLoss, openFloors}
+use Rattle.chain_bound.specs.Losses.{openFloors}
 use Rattle.chain_bound.specs.Trace.{Trace}
-use Rattle.chain_bound.proofs.Weights.{whole, move}
-use Rattle.chain_bound.proofs.Accepted.{accepted-call, accepted-open, closed-reached}
+use Rattle.chain_bound.proofs.Accepted.{accepted-call, closed-reached}
+use Rattle.chain_bound.proofs.Shares.{shares-near}
 use Rattle.chain_bound.proofs.Panel.{unmoved, panel-opens}
 use Rattle.chain_bound.proofs.Carried.{Carried, call-within, close-carried}
 
 -- ---- the open
--- The record of an accepted open beside the exact side: u has one floor and v one more, and D's start index is the start index itself.
-open-carried : (ws gs rs : List ℕ) (start : ℕ) → openRefusal ws gs rs start ≡ 0 → Carried (directOpen ws gs rs start) (openRecord (shared ws gs) rs start)
-unfolding directOpen openRecord
-open-carried ws gs rs start e =
-    let o = accepted-open ws gs rs start e in
-    let us = move weightLoss (omega arith) (omega arith) (omega arith) (whole parts ws) (o .0 .shares) in
+-- The record of an accepted open beside the exact side: v has one floor more than u, and D's start index is the start index itself.
+open-carried : (p : Panel) (start : ℕ) → panelRefusal p start ≡ 0 → Carried (directOpen p start) (panelRecord p start)
+unfolding directOpen panelExact openRecord
+open-carried p start e =
+    let o = shares-near (p .outside) (p .base) (p .shares) (p .updates) start e in
+    let shared = extraBy (p .outside) (p .base) in
     record {
       before = 0;
       earlier = 0;
       from = start;
-      floored = openFloors;
+      floored = openFloors shared;
       start = unmoved (omega arith);
       bottomPositive = omega arith;
-      panel = panel-opens (shared ws gs) rs start (o .1) openFloors shareScale (products ws gs) (omega arith) (omega arith) us;
-      counted = refl;
-      figures = omega arith;
-      small = omega arith;
+      panel = panel-opens (panelShared p) (p .updates) start (o .1) (openFloors shared) _ _ (o .0 .scalePositive) (omega arith) (o .0 .tracks);
+      counted = omega arith;
+      figures = omega (arith, some (p .outside) (p .base));
+      small = omega (arith, o .0 .few);
     }
+  where
+    some : (o : Outside) (ws : List ℕ) → 0 < extraBy o ws
+    some Outside.none ws = omega arith
+    some (Outside.share domain ms) ws = more (sampledSize ms ws)
+      where
+        more : (n : ℕ) → 0 < extraFor n
+        more zero = omega arith
+        more (suc n) = omega arith
 
 -- ---- the record and the exact side after an accepted call
 after-carried : (d : Direct) (r : Chain) (call : Call) → Carried d r → callRefusal r call ≡ 0 → Carried (directAfter d call) (accepted r call)
@@ -94,22 +101,23 @@ unfolding events
 trace-events Trace.done = refl
 trace-events (Trace.next met t) = cc (trace-events t)
 
-module _ (ws gs rs : List ℕ) (start : ℕ) (r : Chain) (accepts : openAnswer ws gs rs start ≡ Judged.given r) where
-  -- Demand 3: of any open that is accepted, and any quarters, closes and years after it. D is reckoned from the open's arguments and the calls alone.
-  pub demand3 : (list : List Made) → AllWithin (directOpen ws gs rs start) (events r list)
-  unfolding openAnswer
+module _ (p : Panel) (start : ℕ) (r : Chain) (accepts : panelAnswer p start ≡ Judged.given r) where
+  -- Demand 3: of any open that is accepted, with or without an outside share, and any quarters, closes and years after it. D is reckoned from the open's
+  -- arguments and the calls alone.
+  pub demand3 : (list : List Made) → AllWithin (directOpen p start) (events r list)
+  unfolding panelAnswer
   demand3 list =
-      let o = given-tells (openRefusal ws gs rs start) _ r (sym accepts) in
-      all-within list r (directOpen ws gs rs start) (rw (o .1) (open-carried ws gs rs start (o .0)))
+      let o = given-tells (panelRefusal p start) _ r (sym accepts) in
+      all-within list r (directOpen p start) (rw (o .1) (open-carried p start (o .0)))
 
   -- its case without years
-  pub demand3-calls : (calls : List Call) → AllWithin (directOpen ws gs rs start) (singles r calls)
+  pub demand3-calls : (calls : List Call) → AllWithin (directOpen p start) (singles r calls)
   demand3-calls calls = rw (without-years r calls) at (demand3 (map Made.call calls))
 
   -- Of any program whose quarter, close and year meet their contracts: its list comes to the defined events from the open's record on, within the bound.
   pub demand3-trace : (list : List Made) (given : List Event) → Trace r list given →
-      (given ≡ events (openRecord (shared ws gs) rs start) list) × AllWithin (directOpen ws gs rs start) given
-  unfolding openAnswer
+      (given ≡ events (panelRecord p start) list) × AllWithin (directOpen p start) given
+  unfolding panelAnswer
   demand3-trace list given t =
       let same = trace-events t in
-      (rw (← (given-tells (openRefusal ws gs rs start) _ r (sym accepts) .1)) same, rw same (demand3 list))
+      (rw (← (given-tells (panelRefusal p start) _ r (sym accepts) .1)) same, rw same (demand3 list))

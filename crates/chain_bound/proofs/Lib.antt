@@ -2,6 +2,7 @@ pub mod Near
 pub mod Growth
 pub mod Weights
 pub mod Accepted
+pub mod Shares
 pub mod Panel
 pub mod Carried
 pub mod Joint

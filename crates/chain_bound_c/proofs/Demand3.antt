@@ -1,4 +1,5 @@
--- Demand 3 for a program in C: whatever vougecress_quarter, vougecress_close and vougecress_year calls follow a vougecress_open that answers 0, on the
+-- Demand 3 for a program in C: whatever vougecress_quarter, vougecress_close and vougecress_year calls follow a vougecress_open or
+-- vougecress_open_outside that answers 0, on the
 -- same lent record, each comes to what document 01's rules give from the opened record on, and every figure is within the bound of the exact direct index.
 -- The record that a call leaves in the list is the one that the next call reads there (`Records`); the rest is `chain_bound`.
 use mathlib.Core.Path.{_≡_, refl, sym, ap, subst, _∙_}
@@ -9,7 +10,8 @@ use denote.Ref.{RefT, now}
 use lib.ListN.{length}
 use borrow.Author.Tests.{le-ltb}
 use Rattle.rules.specs.Refusals.{Judged, refuse, judged, stays, written}
-use Rattle.rules.specs.Chain.{Chain, Call, shared, openRefusal, openRecord, openAnswer, callRefusal, callAnswer, figureOf, relatives, accepted, after}
+use Rattle.rules.specs.Chain.{Chain, Call, callRefusal, callAnswer, figureOf, relatives, accepted, after}
+use Rattle.rules.specs.Panel.{Panel, panelRefusal, panelRecord, panelAnswer}
 use Rattle.rules.specs.Year as rules
 use Rattle.rules.specs.Year.{fourCalls, afterAll, yearRefusal, yearAfter, yearOf}
 use Rattle.rules.specs.Events.{Event, Made, events}
@@ -24,17 +26,22 @@ use Rattle.c_values.specs.Figures.{figureFrom}
 use Rattle.c_values.specs.Record.{recordPlaces, recordIn, recordList}
 use Rattle.c_chain.specs.Record.{listRefusal, listAnswer, listAfter, openedNumber, openedList}
 use Rattle.c_chain.proofs.records.vougecress_open.Reads as open-reads
+use Rattle.c_chain.proofs.outside.vougecress_open_outside.Reads as open-outside-reads
 use Rattle.c_chain.proofs.figures.vougecress_quarter.Reads as quarter-reads
 use Rattle.c_chain.proofs.records.vougecress_close.Reads as close-reads
 use Rattle.c_year.specs.declared.Year.{Year}
 use Rattle.c_year.specs.Year.{lentRecord, lentYear, yearAnswer, yearList}
 use Rattle.c_year.proofs.vougecress_year.Reads as year-reads
-use Rattle.chain_bound_c.specs.Lent.{OpenMade, CallsMade}
+use Rattle.chain_bound_c.specs.Lent.{PanelOpened, CallsMade}
 use Rattle.chain_bound_c.proofs.Records.{Full, read-back, room-again, left-in, full-in, full-open, full-after, full-all}
 
 -- None of the four asks anything of its caller: every list of calls can be made.
 pub open-asks : (κs : Lfts 4) (w g a lent : RefT (List ℕ)) (start : ℕ) → open-reads.Asked κs (w, (g, (a, (start, (lent, tt)))))
 open-asks κs w g a lent start = tt
+
+pub open-outside-asks : (κs : Lfts 5) (w g a sampled lent : RefT (List ℕ)) (start domain : ℕ) →
+    open-outside-reads.Asked κs (w, (g, (a, (start, (sampled, (domain, (lent, tt)))))))
+open-outside-asks κs w g a sampled lent start domain = tt
 
 pub quarter-asks : (κs : Lfts 2) (lent p : RefT (List ℕ)) → quarter-reads.Asked κs (lent, (p, tt))
 quarter-asks κs lent p = tt
@@ -129,28 +136,36 @@ trace room (CallsMade.year {xs = xs} {ys = ys} {fs = fs} {q₁ = q₁} {q₂ = q
     (ap (λ (y : Year). y .count) told ∙ ap (λ (y : rules.Year). y .count) same) (next .0) (filled ∙ ap (λ (y : rules.Year). y .figures) same) in
     Trace.next (year-met (recordIn xs) (now q₁) (now q₂) (now q₃) (now p) (now buffer) _ came) (trace (next .1) rest)
 
--- The theorem: w, g, a and start are what the open was handed, ys is what it left in the lent list.
-pub demand3 : (w g a lent : RefT (List ℕ)) (start : ℕ) (ys : List ℕ) → OpenMade w g a lent start 0 ys →
-    (list : List Made) (given : List Event) → CallsMade ys list given →
-    (given ≡ events (openRecord (shared (now w) (now g)) (now a) start) list) × AllWithin (directOpen (now w) (now g) (now a) start) given
-unfolding openedNumber openedList openAnswer
-demand3 w g a lent start ys made list given follow =
-    demand3-trace (now w) (now g) (now a) start (recordIn ys) (judged-given _ _ accepts ∙ ap Judged.given (sym holds)) list given (trace room follow)
+-- What the contract of either open says where it answers 0: nothing was refused, and the list holds the opened record.
+record Laid (p : Panel) (start : ℕ) (xs ys : List ℕ) : Type 0 where
+  number : 0 ≡ openedNumber p start xs
+  list : ys ≡ openedList p start xs
+
+laid : {p : Panel} {start : ℕ} {ys : List ℕ} → PanelOpened p start 0 ys → (xs : List ℕ) × Laid p start xs ys
+laid (PanelOpened.without {lent = lent} made) = (now lent, record { number = made .learnt .0; list = sym (made .leaves) ∙ made .learnt .1 })
+laid (PanelOpened.outside {lent = lent} made) = (now lent, record { number = made .learnt .0; list = sym (made .leaves) ∙ made .learnt .1 })
+
+-- The theorem: p and start are what the open was handed, ys is what it left in the lent list.
+pub demand3 : (p : Panel) (start : ℕ) (ys : List ℕ) → PanelOpened p start 0 ys → (list : List Made) (given : List Event) → CallsMade ys list given →
+    (given ≡ events (panelRecord p start) list) × AllWithin (directOpen p start) given
+unfolding openedNumber openedList panelAnswer
+demand3 p start ys made list given follow =
+    demand3-trace p start (recordIn ys) (judged-given _ _ accepts ∙ ap Judged.given (sym holds)) list given (trace room follow)
   where
-    opened : Chain
-    opened = openRecord (shared (now w) (now g)) (now a) start
+    xs : List ℕ
+    xs = laid made .0
 
-    accepts : openRefusal (now w) (now g) (now a) start ≡ 0
-    accepts = then-none _ _ (sym (made .learnt .0)) .1
+    accepts : panelRefusal p start ≡ 0
+    accepts = then-none _ _ (sym (laid made .1 .number)) .1
 
-    left : ys ≡ written 0 (recordList opened) (now lent)
-    left = sym (made .leaves) ∙ made .learnt .1 ∙ ap (λ (n : ℕ). written n (recordList opened) (now lent)) (sym (made .learnt .0))
+    left : ys ≡ written 0 (recordList (panelRecord p start)) xs
+    left = laid made .1 .list ∙ ap (λ (n : ℕ). written n (recordList (panelRecord p start)) xs) (sym (laid made .1 .number))
 
-    full : Full opened
-    full = full-open (now w) (now g) (now a) start accepts
+    full : Full (panelRecord p start)
+    full = full-open p start accepts
 
-    holds : recordIn ys ≡ opened
-    holds = ap recordIn left ∙ read-back opened (now lent) full
+    holds : recordIn ys ≡ panelRecord p start
+    holds = ap recordIn left ∙ read-back (panelRecord p start) xs full
 
     room : recordPlaces ≤ length ys
-    room = subst (λ (l : List ℕ). recordPlaces ≤ length l) (sym left) (room-again opened (now lent) full)
+    room = subst (λ (l : List ℕ). recordPlaces ≤ length l) (sym left) (room-again (panelRecord p start) xs full)

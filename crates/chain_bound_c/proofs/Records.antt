@@ -7,11 +7,13 @@ use lib.ListN.{length, drop, replicate, length-append, length-drop, length-repli
 use lib.Seq.{length-take-le, take-at}
 use Rattle.rules.specs.Limits.{mostPanel}
 use Rattle.rules.specs.Refusals.{stays, written}
-use Rattle.rules.specs.Chain.{Chain, Call, held, shared, opening, moved, openRefusal, openRecord, callRefusal, accepted, after}
+use Rattle.rules.specs.Chain.{Chain, Call, held, opening, moved, openRecord, callRefusal, accepted, after}
+use Rattle.rules.specs.Panel.{Panel, panelShared, panelRefusal, panelRecord}
 use Rattle.rules.specs.Year.{afterAll}
 use Rattle.rules.proofs.Refusals.{then-none}
-use Rattle.rules.proofs.Chains.{openable, admitted}
-use Rattle.chain_bound.proofs.Accepted.{accepted-open, closed-reached, reached-length}
+use Rattle.rules.proofs.Chains.{admitted}
+use Rattle.chain_bound.proofs.Accepted.{closed-reached, reached-length}
+use Rattle.chain_bound.proofs.Shares.{shares-near}
 use Rattle.c_values.specs.Record.{recordPlaces, recordIn, recordList}
 
 abbrev pub Full : Chain → Type 0
@@ -36,18 +38,17 @@ left-in (suc n) xs next room full = (refl, room)
 pub full-in : (xs : List ℕ) → recordPlaces ≤ length xs → Full (recordIn xs)
 full-in xs long = length-take-le mostPanel (drop 3 xs) (omega (arith, long, length-drop 3 xs))
 
-pub full-open : (ws gs rs : List ℕ) (start : ℕ) → openRefusal ws gs rs start ≡ 0 → Full (openRecord (shared ws gs) rs start)
-unfolding openRecord openRefusal
-full-open ws gs rs start e =
-    let most = openable ws gs rs start (then-none _ _ e .0) .lists .most in
-    let o = accepted-open ws gs rs start e in
-    let rest = mostPanel - length (shared ws gs) in
+pub full-open : (p : Panel) (start : ℕ) → panelRefusal p start ≡ 0 → Full (panelRecord p start)
+unfolding openRecord
+full-open p start e =
+    let o = shares-near (p .outside) (p .base) (p .shares) (p .updates) start e in
+    let rest = mostPanel - length (panelShared p) in
     omega (
       arith,
-      most,
+      o .0 .most,
       o .0 .long,
       o .1 .long,
-      length-append (opening (shared ws gs) rs) (replicate rest 0),
+      length-append (opening (panelShared p) (p .updates)) (replicate rest 0),
       length-replicate {A = ℕ} rest 0,
     )
 

@@ -1,5 +1,5 @@
--- Document 01, demand 3, with document 02, [6], for a program in C: calls of `vougecress_open`, `vougecress_quarter`, `vougecress_close` and
--- `vougecress_year` on a lent record that nobody else writes, so that each call finds the list as the call before it left it. Of a call is known what Rattle lets its caller know: `Learnt` of the
+-- Document 01, demand 3, with document 02, [6] and [7], for a program in C: calls of `vougecress_open` or `vougecress_open_outside`, `vougecress_quarter`,
+-- `vougecress_close` and `vougecress_year` on a lent record that nobody else writes, so that each call finds the list as the call before it left it. Of a call is known what Rattle lets its caller know: `Learnt` of the
 -- module `Reads` that it makes of the function's own `ensures`.
 use Prim.Native.Nat.{ℕ}
 use mathlib.Core.Path.{_≡_}
@@ -10,12 +10,15 @@ use denote.Ref.{RefT, now}
 use denote.Triple.Clauses.{AtExit}
 use Rattle.rules.specs.Refusals.{judged}
 use Rattle.rules.specs.Chain.{Call}
+use Rattle.rules.specs.Panel.{Panel, plain, withDomain}
 use Rattle.rules.specs.Year.{fourCalls}
 use Rattle.rules.specs.Events.{Event, Made, eventOf}
 use Rattle.chain_bound.specs.Trace.{yearTold}
 use Rattle.c_values.specs.declared.Figure.{Figure}
 use Rattle.c_chain.proofs.records.vougecress_open as open-contract
 use Rattle.c_chain.proofs.records.vougecress_open.Reads as open-reads
+use Rattle.c_chain.proofs.outside.vougecress_open_outside as open-outside-contract
+use Rattle.c_chain.proofs.outside.vougecress_open_outside.Reads as open-outside-reads
 use Rattle.c_chain.proofs.figures.vougecress_quarter as quarter-contract
 use Rattle.c_chain.proofs.figures.vougecress_quarter.Reads as quarter-reads
 use Rattle.c_chain.proofs.records.vougecress_close as close-contract
@@ -30,6 +33,19 @@ pub record OpenMade (w g a lent : RefT (List ℕ)) (start n : ℕ) (ys : List �
   pub end : AtExit open-contract.ended lifetimes
   pub leaves : now (end .1 .1 .1 .1 .0) ≡ ys
   pub learnt : open-reads.Learnt lifetimes (w, (g, (a, (start, (lent, tt))))) n end
+
+-- `vougecress_open_outside` of these, of the list `sampled` and of the outside share returned n and left ys in the lent list.
+pub record OpenOutsideMade (w g a sampled lent : RefT (List ℕ)) (start domain n : ℕ) (ys : List ℕ) : Type 0 where
+  pub lifetimes : Lfts 5
+  pub end : AtExit open-outside-contract.ended lifetimes
+  pub leaves : now (end .1 .1 .1 .1 .1 .1 .0) ≡ ys
+  pub learnt : open-outside-reads.Learnt lifetimes (w, (g, (a, (start, (sampled, (domain, (lent, tt))))))) n end
+
+-- Either of the two, with the panel that it was handed.
+pub data PanelOpened : Panel → ℕ → ℕ → List ℕ → Type 0 where
+  without : {w g a lent : RefT (List ℕ)} {start n : ℕ} {ys : List ℕ} → OpenMade w g a lent start n ys → PanelOpened (plain (now w) (now g) (now a)) start n ys
+  outside : {w g a sampled lent : RefT (List ℕ)} {start domain n : ℕ} {ys : List ℕ} →
+      OpenOutsideMade w g a sampled lent start domain n ys → PanelOpened (withDomain domain (now sampled) (now w) (now g) (now a)) start n ys
 
 -- `vougecress_quarter` of a lent list that holds xs and of the list p returned r
 pub record QuarterMade (xs : List ℕ) (p : RefT (List ℕ)) (r : Figure) : Type 0 where

@@ -1,6 +1,6 @@
--- Document 01, demand 3, with document 02, [6]: calls that a program makes of `chain_open::open`, `Chain::quarter`, `Chain::close` and `chain_year::year`,
--- each handed the record that the call before it handed back. Of a call is known what Rattle lets its caller know: `Learnt` of the module `Reads` that it
--- makes of the function's own `ensures`. No line here repeats a contract.
+-- Document 01, demand 3, with document 02, [6] and [7]: calls that a program makes of `chain_open::open` or `chain_open::open_outside`, `Chain::quarter`,
+-- `Chain::close` and `chain_year::year`, each handed the record that the call before it handed back. Of a call is known what Rattle lets its caller know:
+-- `Learnt` of the module `Reads` that it makes of the function's own `ensures`. No line here repeats a contract.
 use Prim.Native.Nat.{ℕ}
 use mathlib.Core.Path.{_≡_}
 use mathlib.Core.List.{List, [], _∷_, _++_}
@@ -10,6 +10,7 @@ use denote.Ref.{RefT, now}
 use denote.Triple.Clauses.{AtExit}
 use Rattle.refusals.specs.Number.{verdictOf}
 use Rattle.rules.specs.Chain.{Call}
+use Rattle.rules.specs.Panel.{Panel, plain, withDomain}
 use Rattle.rules.specs.Year.{fourCalls}
 use Rattle.rules.specs.Events.{Event, Made, eventOf}
 use Rattle.chain_bound.specs.Trace.{yearTold}
@@ -23,6 +24,8 @@ use Rattle.chain.proofs.Chain.close.Reads as close-reads
 use Rattle.chain_open.specs.declared.Opened.{Opened}
 use Rattle.chain_open.proofs.«open» as open-contract
 use Rattle.chain_open.proofs.«open».Reads as open-reads
+use Rattle.chain_open.proofs.open_outside as open-outside-contract
+use Rattle.chain_open.proofs.open_outside.Reads as open-outside-reads
 use Rattle.chain_year.specs.declared.Came.{Came}
 use Rattle.chain_year.proofs.year as year-contract
 use Rattle.chain_bound_code.specs.YearReads as year-reads
@@ -32,6 +35,18 @@ pub record OpenMade (w g a : RefT (List ℕ)) (start : ℕ) (o : Opened) : Type 
   pub lifetimes : Lfts 3
   pub end : AtExit open-contract.ended lifetimes
   pub learnt : open-reads.Learnt lifetimes (w, (g, (a, (start, tt)))) o end
+
+-- `chain_open::open_outside` of the slices w, g and a, of start, of the marks and of share returned o.
+pub record OpenOutsideMade (w g a : RefT (List ℕ)) (start : ℕ) (marks : RefT (List ℕ)) (domain : ℕ) (o : Opened) : Type 0 where
+  pub lifetimes : Lfts 4
+  pub end : AtExit open-outside-contract.ended lifetimes
+  pub learnt : open-outside-reads.Learnt lifetimes (w, (g, (a, (start, (marks, (domain, tt)))))) o end
+
+-- Either of the two, with the panel that it was handed.
+pub data PanelOpened : Panel → ℕ → Opened → Type 0 where
+  without : {w g a : RefT (List ℕ)} {start : ℕ} {o : Opened} → OpenMade w g a start o → PanelOpened (plain (now w) (now g) (now a)) start o
+  outside : {w g a : RefT (List ℕ)} {start : ℕ} {marks : RefT (List ℕ)} {domain : ℕ} {o : Opened} →
+      OpenOutsideMade w g a start marks domain o → PanelOpened (withDomain domain (now marks) (now w) (now g) (now a)) start o
 
 -- `Chain::quarter` of c and the slice p returned r
 pub record QuarterMade (c : Chain) (p : RefT (List ℕ)) (r : Answered) : Type 0 where

@@ -10,13 +10,13 @@ use lib.Seq.{take-at}
 use Rattle.rules.specs.Refusals.{written}
 use Rattle.rules.specs.TakeAll.{Frame, frame, takeAllGroup}
 use Rattle.rules.specs.Draw.{Drawn, drawRefusal, drawAnswer, drawWeightsBy}
-use Rattle.rules.specs.Chain as rules
+use Rattle.rules.specs.Panel.{plain, panelRecord}
 use Rattle.rules.specs.Events.{Event, Made, events}
 use Rattle.rules.specs.Direct.{directOpen, AllWithin}
 use Rattle.rules.proofs.Refusals.{given-tells}
 use Rattle.chain_open.specs.declared.Opening.{Opening}
 use Rattle.chain_open.specs.declared.Opened.{Opened}
-use Rattle.chain_bound_code.specs.Calls.{OpenMade, CallsMade}
+use Rattle.chain_bound_code.specs.Calls.{OpenMade, PanelOpened, CallsMade}
 use Rattle.chain_bound_code.proofs.Demand3.{demand3}
 use Rattle.draw_key.specs.declared.Method.{Method}
 use Rattle.draw_key.specs.Methods.{methodOf}
@@ -58,12 +58,10 @@ module _ (method : Method) (ns ts rs : RefT (List ℕ)) (z start : ℕ) (numbers
       let size = z-weights (methodOf method) f z start (draw-accepted f z start (now numbers) (now weights) none .none) in
       ap (take z) all ∙ take-at panel (drop (length panel) (now weights)) z size
 
-  -- The theorem: w, the list that the open was handed, holds those first z places.
+  -- The theorem: w, the list that the open was handed, holds those first z places. (`plain` is an opening without an outside share.)
   pub demand3-drawn : (w g a : RefT (List ℕ)) (index : ℕ) (o : Opened) → now w ≡ take z ws → OpenMade w g a index o → o .answer ≡ Opening.Accepted →
       (list : List Made) (given : List Event) → CallsMade (o .chain) list given →
-      (given ≡ events (rules.openRecord (rules.shared panel (now g)) (now a) index) list) × AllWithin (directOpen panel (now g) (now a) index) given
+      let p = plain panel (now g) (now a) in (given ≡ events (panelRecord p index) list) × AllWithin (directOpen p index) given
   demand3-drawn w g a index o handed opened accepted list given follow =
-      subst
-      (λ (v : List ℕ).
-      (given ≡ events (rules.openRecord (rules.shared v (now g)) (now a) index) list) × AllWithin (directOpen v (now g) (now a) index) given)
-      (handed ∙ weights-are) (demand3 w g a index o opened accepted list given follow)
+      subst (λ (v : List ℕ). let p = plain v (now g) (now a) in (given ≡ events (panelRecord p index) list) × AllWithin (directOpen p index) given)
+      (handed ∙ weights-are) (demand3 _ index o (PanelOpened.without opened) accepted list given follow)
