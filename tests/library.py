@@ -12,7 +12,7 @@ from functools import cache
 from pathlib import Path
 
 from independent import Refused
-from independent.chain import Figure, Record, Total
+from independent.chain import Figure, Record, Renewed, Total
 from independent.frame import Drawn, Rotated, Taken
 from independent.sample import Shared
 from independent.register import BadLine
@@ -21,7 +21,7 @@ from independent.stream import END
 
 TOP = Path(__file__).resolve().parent.parent
 PLACES = 100
-FIELDS_BEFORE_WEIGHTS = 3
+FIELDS_BEFORE_WEIGHTS = 4
 
 
 def answer_type(*fields):
@@ -55,6 +55,7 @@ ListedAnswer = answer_type(("count", c_uint64))
 # name -> answer type and parameter types; a list is a pointer and a count
 SIGNATURES = {
     "vougecress_open": (c_uint32, ("u64s", "u32s", "u32s", c_uint64, "u64s")),
+    "vougecress_renew": (c_uint32, ("u64s", "u32s", "u32s", "u64s")),
     "vougecress_quarter": (FigureAnswer, ("u64s", "u32s")),
     "vougecress_close": (FigureAnswer, ("u64s", "u32s")),
     "vougecress_total": (FigureAnswer, ("u32s", "u64s")),
@@ -144,12 +145,12 @@ def unchanged(lists, arguments):
 
 
 def as_list(record):
-    return [record.units, record.index, record.closes] + list(record.weights)
+    return [record.units, record.index, record.closes, record.links] + list(record.weights)
 
 
 def as_record(numbers):
-    units, index, closes = numbers[:FIELDS_BEFORE_WEIGHTS]
-    return Record(units, numbers[FIELDS_BEFORE_WEIGHTS:], index, closes)
+    units, index, closes, links = numbers[:FIELDS_BEFORE_WEIGHTS]
+    return Record(units, numbers[FIELDS_BEFORE_WEIGHTS:], index, closes, links)
 
 
 def open_chain(W, g, a, start):
@@ -160,6 +161,13 @@ def open_chain(W, g, a, start):
     if number == 0:
         return as_record(after)
     return Refused(number) if after == before else ("a refused open wrote its record", number)
+
+
+def renew(record, W, g, a):
+    """The record of the new panel, or the record as it was and a refusal."""
+    number, (*inputs, after) = call("vougecress_renew", W, g, a, as_list(record))
+    unchanged(inputs, (W, g, a))
+    return as_record(after), Refused(number) if number else Renewed()
 
 
 def called(name, record, p):

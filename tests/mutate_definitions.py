@@ -101,6 +101,7 @@ NEAREST = {
     "Order": ("order",),
     "Rotation": ("rotation",),
     "Chain": ("open", "call"),
+    "Renewal": ("renewal",),
     "Events": ("events",),
     "Direct": ("direct",),
     "Total": ("total",),

@@ -57,7 +57,7 @@ def frame_refusal_cases(numbers, turnovers, randoms, z, start):
 
 
 def record_text(record):
-    fields = f"weights = {number_list(record.weights)}; units = {record.units}; index = {record.index}; closes = {record.closes}"
+    fields = f"weights = {number_list(record.weights)}; units = {record.units}; index = {record.index}; closes = {record.closes}; links = {record.links}"
     return f"(record {{ {fields} }})"
 
 
@@ -72,6 +72,13 @@ def call_cases(record, p):
         rest = f"{record_text(record)} (Call.{name} {number_list(p)})"
         yield f"callAnswer {rest}", judged(told, lambda value: value.F)
         yield f"after {rest}", record_text(after)
+
+
+def renewal_cases(record, W, g, a):
+    after, told = chain.renew(record, W, g, a)
+    rest = f"{record_text(record)} {number_list(W)} {number_list(g)} {number_list(a)}"
+    yield f"renewalAnswer {rest}", judged(told, lambda _: record_text(after))
+    yield f"renewalAfter {rest}", record_text(after)
 
 
 def direct_cases(W, g, a, start, closes, p):
@@ -278,9 +285,33 @@ def call_suite(rng, count):
         v = faulty(rng, v, [999_999] + v[1:], [0] * units, [10**13 - sum(v[1:])] + v[1:], [10**13 + 1 - sum(v[1:])] + v[1:], [1] + v[1:])
         index = faulty(rng, rng.choice([10**8, 10**9, 10**10, 4 * 10**8, 399_999_999]), 10**8 - 1, 10**10 + 1)
         closes = faulty(rng, rng.choice([0, 1, 39]), 40, 41)
+        links = faulty(rng, rng.choice([closes, 39]), closes - 1 if closes else 0, 40, 41)
         count_units = faulty(rng, units, 0, 101)
         p = faulty(rng, p, p[:-1], p + [100_000], [24_999] + p[1:], [400_001] + p[1:], [0] + p[1:], [1] + p[1:])
-        yield from call_cases(chain.Record(count_units, v + beyond, index, closes), p)
+        yield from call_cases(chain.Record(count_units, v + beyond, index, closes, links), p)
+
+
+def renewal_suite(rng, count):
+    """The worked records and faults of both sides; a renewal at forty links, and one whose lists have another length than the record."""
+    two = ([1_000_000, 5_000_000], [10_000] * 2, [100_000] * 2)
+    for closes, links in ((40, 40), (0, 40), (3, 3), (3, 2), (41, 41), (0, 41), (41, 40)):
+        for lists in (two, ([], [], [])):
+            yield from renewal_cases(chain.Record(1, [2_000_000], 10**9, closes, links), *lists)
+    for index in (10**8 - 1, 10**8, 10**10, 10**10 + 1):
+        yield from renewal_cases(chain.Record(1, [2_000_000], index, 0, 0), *two)
+    for _ in range(count):
+        v = [rng.choice([0, 10**6, 4 * 10**6]) for _ in range(rng.randint(1, 3))]
+        v = faulty(rng, [10**6] + v, [999_999] + v, [0, 0])
+        closes = rng.choice([0, 1, 40])
+        record = chain.Record(len(v), v + [7] * rng.randint(0, 2), rng.choice([10**8, 10**9, 10**10]), closes, faulty(rng, 40, closes - 1 if closes else 41))
+        units = rng.randint(1, 3)
+        W = [rng.choice([10**6, 10**8, 4 * 10**12]) for _ in range(units)]
+        g = [10_000] + [rng.choice([10_000, 5_000, 0]) for _ in range(units - 1)]
+        a = [rng.choice([100_000, 25_000, 400_000]) if share else 0 for share in g]
+        W = faulty(rng, W, W[:-1], [0] + W[1:])
+        g = faulty(rng, g, g[:-1], [10_001] + g[1:], [0] * units)
+        a = faulty(rng, a, a[:-1], [24_999] + a[1:], [0] + a[1:])
+        yield from renewal_cases(record, W, g, a)
 
 
 def direct_suite(rng, count):
@@ -457,7 +488,7 @@ def limit_suite():
             yield from frame_refusal_cases(list(range(units)), [1] * units, [0] * units, z, 0)
     for units in (100, 101):
         yield from open_cases([10**8] * units, [10_000] * units, [100_000] * units, 10**9)
-        yield from call_cases(chain.Record(units, [10**8] * 101, 10**9, 0), [100_000] * units)
+        yield from call_cases(chain.Record(units, [10**8] * 101, 10**9, 0, 0), [100_000] * units)
     for sectors in (64, 65):
         yield from total_cases([10**6] + [0] * (sectors - 1), [10**9] * sectors)
     panel = list(range(100))
@@ -473,7 +504,7 @@ def edge_suite():
     """Places where one number more or less decides, which random cases seldom meet."""
     for relative in (99_999, 100_000, 100_001):  # 22: the sum of the weights at 10^13
         yield from open_cases([10**13], [10_000], [relative], 10**9)
-        yield from call_cases(chain.Record(1, [10**13], 10**9, 0), [relative])
+        yield from call_cases(chain.Record(1, [10**13], 10**9, 0, 0), [relative])
     for turnovers in ([10**12 - 1, 1], [10**12, 1]):  # 3: the total turnover at 10^12
         yield from frame_refusal_cases([1, 2], turnovers, [0, 0], 1, 0)
     yield from take_all_cases([], 1, [])  # 1: no unit, before 5
@@ -566,6 +597,7 @@ SUITES = {
     "rotation": lambda rng, times: rotation_suite(rng, 40 * times),
     "open": lambda rng, times: open_suite(rng, 90 * times),
     "call": lambda rng, times: call_suite(rng, 90 * times),
+    "renewal": lambda rng, times: renewal_suite(rng, 25 * times),
     "direct": lambda rng, times: direct_suite(rng, 15 * times),
     "events": lambda rng, times: event_suite(rng, 25 * times),
     "total": lambda rng, times: total_suite(rng, 40 * times),

@@ -11,7 +11,7 @@ from itertools import islice
 
 import generate
 from independent import Refused
-from independent.chain import Direct, Figure, Record, Total, close, open_chain, quarter, total, within_bound
+from independent.chain import Direct, Figure, Record, Renewed, Total, close, open_chain, quarter, renew, total, within_bound
 from independent.frame import Drawn, Rotated, Taken, draw, rotate, take_all, take_all_entry
 from independent.stream import COMMANDS, END, Job, front_word, read_command, run, step
 from independent.sample import share
@@ -47,7 +47,7 @@ def try_open(data):
 
 def record_of(data):
     """The record of a quarter or close case."""
-    return Record(data["units"], data["weights"], data["index"], data["closes"])
+    return Record(*(data[name] for name in ("units", "weights", "index", "closes", "links")))
 
 
 def try_quarter(data):
@@ -57,6 +57,11 @@ def try_quarter(data):
 
 def try_close(data):
     record, answer = close(record_of(data), data["p"])
+    return answer, record == record_of(data)
+
+
+def try_renew(data):
+    record, answer = renew(record_of(data), data["W"], data["g"], data["a"])
     return answer, record == record_of(data)
 
 
@@ -105,6 +110,7 @@ ENTRIES = {
     "open_cases": (try_open, {9, 10, 11, 12, 13, 21, 22}, 300, 20_000),
     "quarter_cases": (try_quarter, {9, 13, 19, 23, 24}, 300, 20_000),
     "close_cases": (try_close, {9, 13, 19, 21, 22, 23, 24}, 300, 20_000),
+    "renew_cases": (try_renew, {9, 10, 11, 13, 19, 21, 22}, 300, 20_000),
     "total_cases": (try_total, {14}, 300, 20_000),
     "sample_cases": (try_share, {31}, 300, 20_000),
     "reader_cases": (try_read, {15, 16, 17}, 300, 20_000),
@@ -166,15 +172,16 @@ def test_generators_repeat(t):
         t.check([case.data for case in first] != [case.data for case in other], f"{name}: seeds differ")
 
 
-WIDE = {"turnovers", "out_weights", "W", "weights", "index", "indices", "count", "interviews", "strengths", "minima", "amounts"}
-WIDE_START = ("open_cases", "chain_cases", "load_cases")
+WIDE = {"turnovers", "out_weights", "W", "weights", "index", "closes", "links", "indices", "count", "interviews", "strengths", "minima", "amounts"}
+WIDE_START = ("open_cases", "chain_cases", "panels_cases", "load_cases")
 
 
 def widest(data, name):
     """The largest number of an argument that must fit a machine word."""
     value = data[name]
     if name == "calls":
-        return max((p for _, relatives in value for p in relatives), default=0)
+        relatives = [lists[-1] for _, *lists in value]
+        return max((relative for p in relatives for relative in p), default=0)
     if isinstance(value, (list, bytes)):
         return max(value, default=0)
     return value
@@ -383,7 +390,7 @@ def test_open_laws(t):
             continue
         W, g, a = case.data["W"], case.data["g"], case.data["a"]
         record = open_chain(**case.data)
-        t.check((record.units, record.index, record.closes) == (len(W), case.data["start"], 0), "head", case)
+        t.check((record.units, record.index, record.closes, record.links) == (len(W), case.data["start"], 0, 0), "head", case)
         t.check(len(record.weights) == 100 and not any(record.weights[len(W) :]), "0 beyond the units", case)
         for i in range(len(W)):
             u = math.floor(Fraction(W[i] * g[i], 10_000))
@@ -401,7 +408,7 @@ def law_of_calls(t, case):
     F = math.floor(Fraction(record.index * L, 100_000_000))
     t.check(said == Figure(F) and held == record, "a quarter answers F and leaves the record", case)
     t.check(answer == Figure(F), "a close answers the same F", case)
-    t.check((after.units, after.index, after.closes) == (len(p), F, record.closes + 1), "head", case)
+    t.check((after.units, after.index, after.closes, after.links) == (len(p), F, record.closes + 1, record.links + 1), "head", case)
     t.check(after.weights[len(p) :] == record.weights[len(p) :], "places beyond the units stay", case)
     for i, relative in enumerate(p):
         v = math.floor(record.weights[i] * Fraction(relative, 100_000))
@@ -414,6 +421,31 @@ def test_call_laws(t):
             law_of_calls(t, case)
 
 
+def test_renewal_laws(t):
+    """The opening at the record's C, but for its links; a record that a renewal leaves is never 19 and is never refused another."""
+    for case in generate.renew_cases(t.seed, t.count(300, 10_000)):
+        record, lists = record_of(case.data), [case.data[name] for name in ("W", "g", "a")]
+        after, answer = renew(record, *lists)
+        if not isinstance(answer, Renewed):
+            continue
+        opened = open_chain(*lists, record.index)
+        t.check((after.units, after.weights, after.index, after.closes) == (opened.units, opened.weights, record.index, 0), "the opened record", case)
+        t.check(after.links == record.links, "the links go onward", case)
+        t.check(renew(after, *lists) == (after, Renewed()), "once more", case)
+
+
+def test_links(t):
+    """Document 02's worked records: 24 by links, a renewal at forty of them, 9 not by the record's length."""
+    record = Record(1, [2_000_000] + [0] * 99, 10**9, 0, 39)
+    record, answer = close(record, [110_000])
+    t.check((answer, record.closes, record.links) == (Figure(1_100_000_000), 1, 40), "the fortieth link", record)
+    t.check(close(record, [100_000])[1] == Refused(24), "the next close is 24", record)
+    record, answer = renew(Record(1, [2_000_000] + [0] * 99, 10**9, 40, 40), [1_000_000, 5_000_000], [10_000] * 2, [100_000] * 2)
+    t.check((answer, record.units, record.closes, record.links) == (Renewed(), 2, 0, 40), "a renewal at forty links", record)
+    t.check(quarter(record, [100_000] * 2)[1] == Refused(24), "then a quarter is 24", record)
+    t.check(quarter(record, [1] * 2)[1] == Refused(13), "and 13 before it", record)
+
+
 # Demand 3
 
 
@@ -424,17 +456,20 @@ def follow(t, case):
     record = open_chain(*opening)
     t.check(isinstance(record, Record), "the opening is accepted", case)
     direct = Direct(*opening)
-    for kind, p in data["calls"]:
+    for kind, *lists in data["calls"]:
         before = record
-        record, answer = (close if kind == "close" else quarter)(record, p)
+        record, answer = {"close": close, "quarter": quarter, "renew": renew}[kind](record, *lists)
         if isinstance(answer, Refused):
             t.check(record == before, "a refused call hands the record back", case)
             yield answer, None, None
             continue
-        yield answer, direct.D(p), direct.allowed()
+        if kind == "renew":
+            direct.renewed(*lists)
+            continue
+        yield answer, direct.D(*lists), direct.allowed()
         if kind == "close":
-            direct.closed(p)
-            t.check(record.closes == direct.m - 1, "m counts the accepted closes", case)
+            direct.closed(*lists)
+            t.check(record.links == direct.m - 1, "m counts the accepted closes of all panels", case)
 
 
 def test_demand_3(t):
@@ -450,6 +485,33 @@ def test_demand_3(t):
     t.check(refusals == {9, 13, 21, 22, 23, 24}, "the chains meet each refusal of a call", refusals)
     t.check(steps == set(range(2, 42)), "figures at each count of closes", steps)
     t.check(figures > 20_000, "many figures", figures)
+
+
+def test_demand_3_through_panels(t):
+    refusals, most, figures = set(), 0, 0
+    for case in generate.panels_cases(t.seed, t.count(1_500, 20_000)):
+        for answer, D, allowed in follow(t, case):
+            if D is None:
+                refusals.add(answer.number)
+                continue
+            t.check(within_bound(answer.F, D, allowed), f"F = {answer.F}, D = {D}, allowed = {allowed}", case)
+            most = max(most, allowed)
+            figures += 1
+    t.check(refusals == {9, 13, 21, 22, 23, 24}, "the lists meet each refusal of a call or renewal", refusals)
+    t.check(most == 80, "forty panels of one close each are allowed 80", most)
+    t.check(figures > 10_000, "many figures", figures)
+
+
+def test_worked_panels(t):
+    """Document 02's forty panels need the allowance of each, and a panel without a close has none."""
+    ends = {}
+    for case in islice(generate.panels_cases(t.seed, 0), 2):
+        for answer, D, allowed in follow(t, case):
+            ends[case.what] = (answer.F, D, allowed)
+    F, D, allowed = ends["forty panels of one close"]
+    t.check((F, math.floor(100 * D), allowed) == (1_000_023_600, 100_007_199_571, 80), "F, D and the multiplier", (F, float(D), allowed))
+    t.check(within_bound(F, D, 80) and not within_bound(F, D, 41), "m + 1 alone does not cover it", (F, float(D)))
+    t.check(ends["a panel without a close"] == (1_260_000_000, 1_260_000_000, 4), "the multiplier 4", ends)
 
 
 # Both floors of the second weight lose nearly a millionth, and it moves apart from
@@ -681,8 +743,8 @@ def test_refused_and_figure_differ(t):
     """An answer is never mistaken for another kind with the same number."""
     t.check(Refused(13) != Figure(13) and Figure(13) != Total(13), "kinds differ")
     t.check(Drawn(1, 2) != (1, 2) and Refused(5) == Refused(5), "values agree")
-    t.check(Record(1, [0], 1, 0) != Record(1, [1], 1, 0), "records differ by a weight")
-    t.check(Record(1, [7], 1, 0) == Record(1, [7], 1, 0), "records agree by their values")
+    t.check(Record(1, [0], 1, 0, 0) != Record(1, [1], 1, 0, 0), "records differ by a weight")
+    t.check(Record(1, [7], 1, 0, 0) == Record(1, [7], 1, 0, 0), "records agree by their values")
 
 
 # Registers

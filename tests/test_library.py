@@ -6,7 +6,7 @@ import generate
 import library
 from cases.samples import WORKED
 from independent import Refused, chain, frame, load, register, sample, sheet, stream, writing
-from independent.chain import Direct, Figure, Record, within_bound
+from independent.chain import Direct, Figure, Record, Renewed, within_bound
 
 # Refusals that each entry has; each must be met many times.
 REFUSALS = {
@@ -16,6 +16,7 @@ REFUSALS = {
     "open_cases": {9, 10, 11, 12, 13, 21, 22},
     "quarter_cases": {9, 13, 19, 23, 24},
     "close_cases": {9, 13, 19, 21, 22, 23, 24},
+    "renew_cases": {9, 10, 11, 13, 19, 21, 22},
     "total_cases": {14},
     "load_cases": {33},
     "word_cases": {17},
@@ -63,7 +64,7 @@ def test_reference_cases(t):
     t.check((answer, buffer) == (frame.Rotated(101, 101_000, 1), [15, 2, 3]), "K6")
     t.check(panel_of(NUMBERS, TURNOVERS, RANDOMS, 3, 101_000)[1] == [11, 12, 13], "K6: the new panel")
     t.check(panel_of([1, 2, 3], [10] * 3, [500_000] * 3, 1, 0)[1] == [1], "K9")
-    record = Record(1, [10**6] + [0] * 99, 10**9, 0)
+    record = Record(1, [10**6] + [0] * 99, 10**9, 0, 0)
     t.check(library.quarter(record, [24_999])[1] == Refused(13), "K10: 24,999 is refused by 13")
     t.check(library.quarter(record, [25_000])[1] == Figure(250_000_000), "K10: 25,000 is taken")
     t.check(library.total([600_000, 400_000], [1_062_000_000, 10**9]) == chain.Total(1_037_200_000), "K11")
@@ -131,21 +132,27 @@ def test_open(t):
     compared(t, "open_cases", 600, 30_000, lambda d: library.open_chain(**d), lambda d: chain.open_chain(**d))
 
 
-def on_record(call):
+def on_record(call, *lists):
     def tried(data):
-        record = Record(data["units"], data["weights"], data["index"], data["closes"])
-        after, answer = call(record, data["p"])
+        record = Record(*(data[name] for name in ("units", "weights", "index", "closes", "links")))
+        after, answer = call(record, *(data[name] for name in lists))
         return answer, after
 
     return tried
 
 
 def test_quarter(t):
-    compared(t, "quarter_cases", 600, 30_000, on_record(library.quarter), on_record(chain.quarter))
+    compared(t, "quarter_cases", 600, 30_000, on_record(library.quarter, "p"), on_record(chain.quarter, "p"))
 
 
 def test_close(t):
-    compared(t, "close_cases", 600, 30_000, on_record(library.close), on_record(chain.close))
+    compared(t, "close_cases", 600, 30_000, on_record(library.close, "p"), on_record(chain.close, "p"))
+
+
+def test_renew(t):
+    """Answer and every place of the lent record."""
+    lists = ("W", "g", "a")
+    compared(t, "renew_cases", 600, 30_000, on_record(library.renew, *lists), on_record(chain.renew, *lists))
 
 
 def test_total(t):
@@ -153,20 +160,25 @@ def test_total(t):
 
 
 def test_record_list(t):
-    """A record that is shorter than 103 places is none: 19, and 6 where open is to write it; one place more stays."""
-    full = [1, 10**9, 0, 10**6] + [0] * 99
+    """A record that is shorter than 104 places is none: 19, and 6 where open is to write it; one place more stays."""
+    full = [1, 10**9, 0, 0, 10**6] + [0] * 99
     answer, (after, _) = library.call("vougecress_close", full[:-1], [100_000])
     t.check((answer.refusal, answer.figure, after) == (19, 0, full[:-1]), "a record one place short is refused by 19")
     answer, _ = library.call("vougecress_quarter", full[:-1], [100_000])
     t.check((answer.refusal, answer.figure) == (19, 0), "a record one place short is refused by 19 at a quarter")
     answer, (after, _) = library.call("vougecress_close", full + [5], [200_000])
     t.check(answer.figure == 2 * 10**9 and after[-1] == 5, "a place beyond the record stays")
-    opening = ([10**6], [10_000], [100_000], 10**9)
-    for room, number in ((102, 6), (103, 0), (104, 0)):
+    lists = ([10**6], [10_000], [100_000])
+    for room, number in ((103, 19), (104, 0), (105, 0)):
+        before = (full + [5])[:room]
+        answer, (*_, after) = library.call("vougecress_renew", *lists, before)
+        t.check(answer == number and after == before, f"a renewal from a record of {room} places, here by the same record")
+    opening = (*lists, 10**9)
+    for room, number in ((103, 6), (104, 0), (105, 0)):
         answer, (*_, after) = library.call("vougecress_open", *opening, [8] * room)
         t.check(answer == number, f"open with a record of {room} places")
-        t.check(after[103:] == [8] * (room - 103) if number == 0 else after == [8] * room, "open writes 103 places")
-    answer, (*_, after) = library.call("vougecress_open", [], [], [], 10**9, [8] * 102)
+        t.check(after[104:] == [8] * (room - 104) if number == 0 else after == [8] * room, "open writes 104 places")
+    answer, (*_, after) = library.call("vougecress_open", [], [], [], 10**9, [8] * 103)
     t.check(answer == 6, "6 is lower than 9")
 
 
@@ -182,8 +194,15 @@ def test_chains(t):
     t.check(longest == 40, "some chain reached forty closes", repeat=longest)
 
 
+def test_panels(t):
+    """The same through several panels."""
+    ends = [follow(t, case) for case in generate.panels_cases(t.seed, t.count(1_000, 10_000))]
+    t.check(sum(figures for figures, _ in ends) > 1_000, "many figures were compared")
+    t.check(max(links for _, links in ends) == 40, "some chain reached forty links")
+
+
 def follow(t, case):
-    """One chain through the library beside the independent one; the count of figures and of closes."""
+    """One chain through the library beside the independent one; the count of figures and of links."""
     data = case.data
     arguments = (data["W"], data["g"], data["a"], data["start"])
     ours, theirs = library.open_chain(*arguments), chain.open_chain(*arguments)
@@ -191,16 +210,18 @@ def follow(t, case):
     if isinstance(theirs, Refused):
         return 0, 0
     exact, figures = Direct(*arguments), 0
-    for name, p in data["calls"]:
-        ours, told = getattr(library, name)(ours, p)
-        theirs, expected = getattr(chain, name)(theirs, p)
+    for name, *lists in data["calls"]:
+        ours, told = getattr(library, name)(ours, *lists)
+        theirs, expected = getattr(chain, name)(theirs, *lists)
         t.check((told, ours) == (expected, theirs), f"chain: a {name} and the record after it", repeat=case)
         if isinstance(expected, Figure):
             figures += 1
-            t.check(within_bound(told.F, exact.D(p), exact.allowed()), "chain: the figure is within the bound", repeat=case)
+            t.check(within_bound(told.F, exact.D(*lists), exact.allowed()), "chain: the figure is within the bound", repeat=case)
             if name == "close":
-                exact.closed(p)
-    return figures, theirs.closes
+                exact.closed(*lists)
+        if isinstance(expected, Renewed):
+            exact.renewed(*lists)
+    return figures, theirs.links
 
 
 def what_is_read(command):

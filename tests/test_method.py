@@ -154,7 +154,7 @@ class Rotate(Example):
 
 
 class Chain(Example):
-    """W, g, a and `open START`, or units, v, C, closes and `record`; then `quarter` and `close` with their relatives"""
+    """W, g, a and `open START`, or units, v, C, closes (and links, if they are more) and `record`; then `quarter` and `close` with their relatives, or other W, g, a and `renew`"""
 
     record = None
     direct = None
@@ -168,12 +168,14 @@ class Chain(Example):
             self.hand_in()
         elif word in ("quarter", "close"):
             self.call(word, numbers)
+        elif word == "renew":
+            self.renew()
         else:
             super().take(line)
 
     def state(self):
         units = min(self.record.units, chain.PLACES)
-        return facts_of(v=self.record.weights[:units], C=self.record.index, closes=self.record.closes)
+        return facts_of(v=self.record.weights[:units], C=self.record.index, closes=self.record.closes, links=self.record.links)
 
     def open(self, start):
         W, g, a = self.lists("W", "g", "a")
@@ -189,8 +191,23 @@ class Chain(Example):
 
     def hand_in(self):
         v = self.given["v"]
-        self.record = chain.Record(self.one("units"), v + [0] * (chain.PLACES - len(v)), self.one("C"), self.one("closes"))
+        links = self.one("links") if "links" in self.given else self.one("closes")
+        self.record = chain.Record(self.one("units"), v + [0] * (chain.PLACES - len(v)), self.one("C"), self.one("closes"), links)
         self.direct = None
+
+    def renew(self):
+        lists = self.lists("W", "g", "a")
+        before = self.record
+        expected = chain.renew(before, *lists)
+        self.same(library.renew(before, *lists), expected)
+        self.record, answer = expected
+        if isinstance(answer, Refused):
+            self.answers(answer)
+        else:
+            self.answers(answer, v=self.record.weights[: self.record.units])
+            if self.direct is not None:
+                self.direct.renewed(*lists)
+        self.facts = self.state()
 
     def call(self, word, p):
         before = self.record
@@ -219,7 +236,7 @@ class Chain(Example):
         self.t.check(chain.within_bound(F, D, allowed), f"{self.where}: F is within the bound", (F, D, m))
         if word == "close":
             self.direct.closed(p)
-        return facts_of(D=D, m=m, distance=10_000_000 * abs(F - D), bound=11 * allowed * D)
+        return facts_of(D=D, m=m, multiplier=allowed, distance=10_000_000 * abs(F - D), bound=11 * allowed * D)
 
 
 class Total(Example):
@@ -464,7 +481,7 @@ def test_commands(t):
 
 
 def record_of(data):
-    return chain.Record(data["units"], data["weights"], data["index"], data["closes"])
+    return chain.Record(*(data[name] for name in ("units", "weights", "index", "closes", "links")))
 
 
 def number_of(answer):
@@ -479,6 +496,7 @@ ENTRIES = {
     "open": (generate.open_cases, lambda data: chain.open_chain(**data)),
     "quarter": (generate.quarter_cases, lambda data: chain.quarter(record_of(data), data["p"])[1]),
     "close": (generate.close_cases, lambda data: chain.close(record_of(data), data["p"])[1]),
+    "renew": (generate.renew_cases, lambda data: chain.renew(record_of(data), data["W"], data["g"], data["a"])[1]),
     "total": (generate.total_cases, lambda data: chain.total(**data)),
     "read": (generate.reader_cases, lambda data: stream.read_command(data["part"])[0]),
     "load": (generate.load_cases, lambda data: load.load(**data)[0]),

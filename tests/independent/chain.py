@@ -1,6 +1,6 @@
-"""Document 01: "Chain record" with demand 3, and "Total"; relatives in hundred-thousandths (document 02, [5])."""
+"""Document 01: "Chain record" with demand 3, and "Total"; relatives in hundred-thousandths (document 02, [5]), renewals ([11])."""
 
-from dataclasses import dataclass
+from dataclasses import dataclass, replace
 from fractions import Fraction
 
 from . import Refused
@@ -15,18 +15,20 @@ MOST_WEIGHT = 10**13
 LOWEST_INDEX = 10**8
 HIGHEST_INDEX = 10**10
 MOST_CLOSES = 40
+MOST_LINKS = 40
 MOST_SECTORS = 64
 WHOLE_SECTOR_SHARE = 1_000_000
 
 
 @dataclass(frozen=True)
 class Record:
-    """A chain record as any caller may hand it in: `units` need not be 1 to 100."""
+    """A chain record as any caller may hand it in: `units` need not be 1 to 100. `links` are the accepted closes of all panels."""
 
     units: int
     weights: list
     index: int
     closes: int
+    links: int
 
 
 @dataclass(frozen=True)
@@ -34,6 +36,11 @@ class Figure:
     """The answer F of a quarter or close."""
 
     F: int
+
+
+@dataclass(frozen=True)
+class Renewed:
+    """A renewal was accepted; its record is handed back beside it."""
 
 
 @dataclass(frozen=True)
@@ -108,7 +115,7 @@ def open_chain(W, g, a, start):
     if refusal is not None:
         return Refused(refusal)
     weights = [opening_weight(W[i], g[i], a[i]) for i in range(len(W))]
-    return Record(len(W), weights + [0] * (PLACES - len(W)), start, 0)
+    return Record(len(W), weights + [0] * (PLACES - len(W)), start, 0, 0)
 
 
 # Quarter and close
@@ -121,6 +128,8 @@ def breaks_a_limit(record):
     weights = record.weights[: record.units]
     return (
         record.closes > MOST_CLOSES
+        or record.links > MOST_LINKS
+        or record.links < record.closes
         or outside_index_range(record.index)
         or any(v != 0 and v < LEAST_WEIGHT for v in weights)
         or all(v == 0 for v in weights)
@@ -155,7 +164,7 @@ def call_refusal(record, p, closing):
             return 22
     if outside_index_range(figure(record, p)):
         return 23
-    if record.closes >= MOST_CLOSES:
+    if record.links >= MOST_LINKS:
         return 24
     return None
 
@@ -177,20 +186,48 @@ def close(record, p):
     # Places beyond `units` are no part of the list: they stay as they were.
     new = [updated_weight(record.weights[i], p[i]) for i in range(record.units)]
     weights = new + record.weights[record.units:]
-    return Record(record.units, weights, F, record.closes + 1), Figure(F)
+    return Record(record.units, weights, F, record.closes + 1, record.links + 1), Figure(F)
+
+
+# Renewal (document 02, [11])
+
+
+def renewal_refusal(record, W, g, a):
+    """19 of the record, "before all else", then the opening's, with C for its start index; never 24."""
+    if breaks_a_limit(record):
+        return 19
+    return open_refusal(W, g, a, record.index)
+
+
+def renew(record, W, g, a):
+    """ "takes its C as the start index and its link count onward; its closes begin at 0"; or the record as it came and a refusal."""
+    refusal = renewal_refusal(record, W, g, a)
+    if refusal is not None:
+        return record, Refused(refusal)
+    return replace(open_chain(W, g, a, record.index), links=record.links), Renewed()
 
 
 # Demand 3: the exact side
 
 
 class Direct:
-    """e, E and m, reckoned from the open's arguments and the accepted calls, never from a record."""
+    """e, E and m, reckoned from the open's arguments and the accepted calls, never from a record.
+
+    `start` is the first start index times the means of the panels that were left, and `left` their part of the bound.
+    """
 
     def __init__(self, W, g, a, start):
         self.start = Fraction(start)
+        self.m = 1
+        self.left = 0
+        self.new_panel(W, g, a)
+
+    def new_panel(self, W, g, a):
+        """The exact weights of an opening or a renewal, and what its panel adds to m: one."""
         self.e = [Fraction(W[i] * g[i] * a[i], 1_000_000_000) for i in range(len(W))]
         self.E = sum(self.e)
-        self.m = 1
+        self.extra = 1
+        self.closes = 0
 
     def D(self, p):
         """D of a call that is not refused."""
@@ -201,10 +238,18 @@ class Direct:
         """After a close that is not refused: e moves without rounding, m grows by one."""
         self.e = [self.e[i] * Fraction(p[i], SCALE) for i in range(len(p))]
         self.m += 1
+        self.closes += 1
+
+    def renewed(self, W, g, a):
+        """After a renewal that is not refused: "Of a panel that was left, only its accepted closes enter the product." """
+        self.start *= sum(self.e) / self.E
+        if self.closes > 0:
+            self.left += self.extra
+        self.new_panel(W, g, a)
 
     def allowed(self):
-        """What the bound multiplies: m + 1."""
-        return self.m + 1
+        """What the bound multiplies: "m plus one … for each panel that has an accepted close or gives the figure"."""
+        return self.m + self.left + self.extra
 
 
 def within_bound(F, D, allowed):

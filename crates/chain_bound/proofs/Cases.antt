@@ -12,7 +12,7 @@ use Rattle.rules.specs.Tests.{_or_, outside}
 use Rattle.rules.specs.Refusals.{Judged, refuse, _then_}
 use Rattle.rules.specs.Lists.{sum, products, scaled, anyOf, anyPair}
 use Rattle.rules.specs.Chain.{Chain, Call, relatives, held, shared, badIndex, badRelative, badWeight, badUnits, badOpenLists, badBase, badShares, openInputRefusal, weightRefusal}
-use Rattle.rules.specs.Chain.{openRefusal, openRecord, openAnswer, link, figureAt, broken, callInputRefusal, figureRefusal, callRefusal, callAnswer, after}
+use Rattle.rules.specs.Chain.{openRefusal, openRecord, openAnswer, link, figureAt, badLinks, broken, callInputRefusal, figureRefusal, callRefusal, callAnswer, after}
 use Rattle.rules.specs.Events.{Event, eventOf, events}
 use Rattle.rules.specs.Direct.{Direct, exactOpen, exactMoved, directOpen, numerator, denominator, Within, AllWithin}
 use Rattle.rules.proofs.Tests.{never}
@@ -90,7 +90,7 @@ pub record Answered : Type 0 where
 
 pub answered : Answered
 unfolding _or_ outside refuse _then_ sum products scaled anyOf anyPair held badIndex badRelative badWeight badUnits badOpenLists badBase badShares
-    openInputRefusal weightRefusal openRefusal openRecord openAnswer link figureAt broken callInputRefusal figureRefusal callRefusal callAnswer after events
+    openInputRefusal weightRefusal openRefusal openRecord openAnswer link figureAt badLinks broken callInputRefusal figureRefusal callRefusal callAnswer after events
 answered =
     record {
       listing-opens = refl;

@@ -19,7 +19,7 @@ Full r = length (r .weights) ≡ mostPanel
 -- The record survives the lent list: what an open or a close lays there is read back as it was.
 pub read-back : (r : Chain) (xs : List ℕ) → Full r → recordIn (written 0 (recordList r) xs) ≡ r
 read-back r xs full =
-    ap (λ (l : List ℕ). record { weights = l; units = r .units; index = r .index; closes = r .closes })
+    ap (λ (l : List ℕ). record { weights = l; units = r .units; index = r .index; closes = r .closes; links = r .links })
     (take-at (r .weights) _ mostPanel full)
 
 -- and the list has room for the next one
@@ -33,7 +33,7 @@ left-in zero xs next room full = (read-back next xs full, room-again next xs ful
 left-in (suc n) xs next room full = (refl, room)
 
 pub full-in : (xs : List ℕ) → recordPlaces ≤ length xs → Full (recordIn xs)
-full-in xs long = length-take-le mostPanel (drop 3 xs) (omega (arith, long, length-drop 3 xs))
+full-in xs long = length-take-le mostPanel (drop 4 xs) (omega (arith, long, length-drop 4 xs))
 
 pub full-open : (ws gs rs : List ℕ) (start : ℕ) → openRefusal ws gs rs start ≡ 0 → Full (openRecord (shared ws gs) rs start)
 unfolding openRecord openRefusal

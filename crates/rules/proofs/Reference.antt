@@ -13,7 +13,7 @@ use Rattle.rules.specs.TakeAll.{Frame, Taken, frame, moreTurnover, large
 use Rattle.rules.specs.Draw.{Drawn, shifted, keyNumerator, keyDenominator, fractionBelow, keyBelow, sampledBy, drawnBy, panelNumbers, panelWeights, badLists, badRandom, frameRefusal, drawRefusal, drawAnswer, drawNumbers, drawWeights}
 use Rattle.rules.specs.Order.{put, ordered}
 use Rattle.rules.specs.Rotation.{Rotated, member, members, required, startAt, leaves, suffices, leastStep, leavers, badOldPanel, oldPanelRefusal, rotationRefusal, rotationAnswer, rotationLeavers}
-use Rattle.rules.specs.Chain.{Chain, Call, held, badIndex, badRelative, badWeight, badUnits, badOpenLists, badBase, badShares, openInputRefusal, weightRefusal, openRefusal, openRecord, link, figureAt, broken, callInputRefusal, figureRefusal, callRefusal, callAnswer}
+use Rattle.rules.specs.Chain.{Chain, Call, held, badIndex, badRelative, badWeight, badUnits, badOpenLists, badBase, badShares, openInputRefusal, weightRefusal, openRefusal, openRecord, link, figureAt, badLinks, broken, callInputRefusal, figureRefusal, callRefusal, callAnswer}
 use Rattle.rules.specs.Direct.{Direct, exactOpen, exactMoved, directOpen, directAfter, numerator, denominator}
 use Rattle.rules.specs.Total.{badSectors, totalOf, totalAnswer}
 use Rattle.rules.specs.Stream.{bigEndian, operandsOf, widthOf, commandOf, readingRefusal, reading, restOf}
@@ -70,7 +70,7 @@ directA =
 
 -- a record of one unit, of which a quarter asks one relative
 abbrev oneUnit : Chain
-oneUnit = record { weights = 1000000 ∷ []; units = 1; index = 1000000000; closes = 0 }
+oneUnit = record { weights = 1000000 ∷ []; units = 1; index = 1000000000; closes = 0; links = 0 }
 
 -- an answer that is given: q, n and X of a take-all group; n and X of a draw; k, the new start and the leavers' count of a rotation
 abbrev taken : ℕ → ℕ → ℕ → Judged Taken
@@ -131,7 +131,7 @@ unfolding _or_ _and_ outside refuse _then_ sum products scaled anyOf anyPair ris
     moreTurnover larger largest restWithout reachesRest fits takeAllSize restTurnover takeAllGroup baseWeight badTurnovers badSize badCount takeAllRefusal takeAllAnswer takeAllMarks
     shifted keyNumerator keyDenominator fractionBelow keyBelow sampledBy drawnBy panelNumbers panelWeights badLists badRandom frameRefusal drawRefusal drawAnswer drawNumbers drawWeights
     member members required startAt leaves suffices leastStep leavers badOldPanel oldPanelRefusal rotationRefusal rotationAnswer rotationLeavers
-    held badIndex badRelative badWeight badUnits badOpenLists badBase badShares openInputRefusal weightRefusal openRefusal openRecord link figureAt broken callInputRefusal figureRefusal callRefusal callAnswer
+    held badIndex badRelative badWeight badUnits badOpenLists badBase badShares openInputRefusal weightRefusal openRefusal openRecord link figureAt badLinks broken callInputRefusal figureRefusal callRefusal callAnswer
     exactOpen exactMoved directOpen numerator denominator badSectors totalOf totalAnswer
     bigEndian operandsOf widthOf commandOf readingRefusal reading restOf digitsOn decimalOn lineOf lineOf2 panelLines
     emptyJob withUnit onUnit withPanel onDraw placeRefusal withShare onShare withRelative onRelative withChain onOpen step printed output

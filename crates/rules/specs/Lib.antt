@@ -8,6 +8,7 @@ pub mod TakeAll
 pub mod Draw
 pub mod Rotation
 pub mod Chain
+pub mod Renewal
 pub mod Events
 pub mod Direct
 pub mod Total
