@@ -10,11 +10,13 @@ from cases import GENERATORS, U32, U64, Case, again
 from cases.chains import chain_cases, close_cases, open_cases, panels_cases, quarter_cases, renew_cases, total_cases
 from cases.frames import draw_cases, large_draw_cases, near_draw_cases, rotate_cases, take_all_cases
 from cases.loads import load_cases
+from cases.outsides import outside_cases, outside_chain_cases
 from cases.streams import LISTING, many_draw_cases, reader_cases, stream_cases, word_cases
 from cases.samples import sample_cases
 from cases.registers import register_cases
 from cases.sheets import sheet_cases
 from cases.writings import read_all_cases, write_cases
+from cases.years import year_cases, year_chain_cases
 
 __all__ = [
     "GENERATORS",
@@ -31,6 +33,8 @@ __all__ = [
     "many_draw_cases",
     "near_draw_cases",
     "open_cases",
+    "outside_cases",
+    "outside_chain_cases",
     "panels_cases",
     "quarter_cases",
     "read_all_cases",
@@ -45,4 +49,6 @@ __all__ = [
     "total_cases",
     "word_cases",
     "write_cases",
+    "year_cases",
+    "year_chain_cases",
 ]

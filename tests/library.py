@@ -30,6 +30,7 @@ def answer_type(*fields):
 
 
 FigureAnswer = answer_type(("figure", c_uint64))
+YearAnswer = answer_type(("count", c_uint64))
 TakenAnswer = answer_type(("q", c_uint64), ("n", c_uint64), ("rest", c_uint64))
 DrawnAnswer = answer_type(("n", c_uint64), ("rest", c_uint64))
 RotatedAnswer = answer_type(("k", c_uint32), ("start", c_uint32), ("count", c_uint64))
@@ -55,9 +56,11 @@ ListedAnswer = answer_type(("count", c_uint64))
 # name -> answer type and parameter types; a list is a pointer and a count
 SIGNATURES = {
     "vougecress_open": (c_uint32, ("u64s", "u32s", "u32s", c_uint64, "u64s")),
+    "vougecress_open_outside": (c_uint32, ("u64s", "u32s", "u32s", c_uint64, "u8s", c_uint32, "u64s")),
     "vougecress_renew": (c_uint32, ("u64s", "u32s", "u32s", "u64s")),
     "vougecress_quarter": (FigureAnswer, ("u64s", "u32s")),
     "vougecress_close": (FigureAnswer, ("u64s", "u32s")),
+    "vougecress_year": (YearAnswer, ("u64s", "u32s", "u32s", "u32s", "u32s", "u64s")),
     "vougecress_total": (FigureAnswer, ("u32s", "u64s")),
     "vougecress_take_all": (TakenAnswer, ("u64s", c_size_t, "u8s")),
     "vougecress_draw": (DrawnAnswer, ("u32s", "u64s", "u32s", c_size_t, c_uint32, "u32s", "u64s")),
@@ -163,6 +166,16 @@ def open_chain(W, g, a, start):
     return Refused(number) if after == before else ("a refused open wrote its record", number)
 
 
+def open_outside(W, g, a, start, marks, G):
+    """The same with an outside share."""
+    before = [7] * (FIELDS_BEFORE_WEIGHTS + PLACES)
+    number, (*inputs, after) = call("vougecress_open_outside", W, g, a, start, marks, G, before)
+    unchanged(inputs, (W, g, a, marks))
+    if number == 0:
+        return as_record(after)
+    return Refused(number) if after == before else ("a refused open wrote its record", number)
+
+
 def renew(record, W, g, a):
     """The record of the new panel, or the record as it was and a refusal."""
     number, (*inputs, after) = call("vougecress_renew", W, g, a, as_list(record))
@@ -182,6 +195,15 @@ def quarter(record, p):
 
 def close(record, p):
     return called("vougecress_close", record, p)
+
+
+def year(record, first, second, third, last, figures):
+    """The record and the figures after it, and how far it came: a refused year has its count too."""
+    lists = (first, second, third, last)
+    answer, (after, *read, buffer) = call("vougecress_year", as_list(record), *lists, figures)
+    unchanged(read, lists)
+    told = Stopped(answer.refusal, answer.count) if answer.refusal else Year(answer.count)
+    return as_record(after), buffer, told
 
 
 def total(shares, indices):

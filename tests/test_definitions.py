@@ -10,8 +10,9 @@ import random
 import definitions
 from cases.samples import WORKED
 from definitions import number_list
-from independent import Refused, chain, frame, load, register, sample, sheet, stream, writing
-from cases import registers
+from independent import Refused, chain, frame, load, outside, register, sample, sheet, stream, writing
+from cases import registers, years
+from cases.outsides import outside_cases
 
 
 def judged(value, given):
@@ -66,6 +67,21 @@ def open_cases(W, g, a, start):
     yield f"openAnswer {number_list(W)} {number_list(g)} {number_list(a)} {start}", judged(told, record_text)
 
 
+def panel_text(W, g, a, marks, G):
+    return f"(withDomain {G} " + " ".join(map(number_list, (marks, W, g, a))) + ")"
+
+
+def outside_open_cases(W, g, a, start, marks, G):
+    told = outside.open_outside(W, g, a, start, marks, G)
+    yield f"panelAnswer {panel_text(W, g, a, marks, G)} {start}", judged(told, record_text)
+
+
+def outside_direct_cases(W, g, a, start, marks, G, closes, p):
+    """D after some closes of a panel with an outside share, and what the bound allows."""
+    exact, state = outside.OutsideDirect(W, g, a, start, marks, G), f"directOpen {panel_text(W, g, a, marks, G)} {start}"
+    yield from exact_cases(exact, state, closes, p)
+
+
 def call_cases(record, p):
     for name, call in (("quarter", chain.quarter), ("close", chain.close)):
         after, told = call(record, p)
@@ -81,10 +97,28 @@ def renewal_cases(record, W, g, a):
     yield f"renewalAfter {rest}", record_text(after)
 
 
+def four_calls(lists):
+    return "(fourCalls " + " ".join(map(number_list, lists)) + ")"
+
+
+def year_cases(record, lists, buffer):
+    """What a year comes to, and the single calls that it makes."""
+    after, figures, told = chain.year(record, *lists, buffer)
+    number = told.number if isinstance(told, Refused) else 0
+    due = f"refusal = {number}; count = {told.count}; chain = {record_text(after)}; figures = {number_list(figures)}"
+    yield f"yearOf {record_text(record)} {four_calls(lists)} {number_list(buffer)}", f"record {{ {due} }}"
+    made = 0 if number == 28 else told.count + (number != 0)
+    names = [f"Call.{name} {number_list(p)}" for name, p in zip(["quarter"] * 3 + ["close"], lists)]
+    yield f"yearCalls {record_text(record)} {len(buffer)} {four_calls(lists)}", "(" + " ∷ ".join(names[:made] + ["[]"]) + ")"
+
+
 def direct_cases(W, g, a, start, closes, p):
     """D after some closes, by cross multiplication with the fraction."""
     exact = chain.Direct(W, g, a, start)
-    state = f"directOpen {number_list(W)} {number_list(g)} {number_list(a)} {start}"
+    yield from exact_cases(exact, f"directOpen (plain {number_list(W)} {number_list(g)} {number_list(a)}) {start}", closes, p)
+
+
+def exact_cases(exact, state, closes, p):
     for q in closes:
         exact.closed(q)
         state = f"directAfter ({state}) (Call.close {number_list(q)})"
@@ -102,13 +136,31 @@ def event_text(name, p, told):
     return f"Event.answered (Call.{name} {number_list(p)}) {told.F}"
 
 
+def single_calls(name, p):
+    """The calls that stand for one of a list: a year without room stands for none."""
+    if name != "year":
+        return [(name, p)]
+    room, *lists = p
+    return [("quarter", q) for q in lists[:3]] + [("close", lists[3])] if room >= 4 else []
+
+
+def made_text(name, p):
+    if name != "year":
+        return f"Made.call (Call.{name} {number_list(p)})"
+    room, *lists = p
+    return f"Made.year {room} " + " ".join(map(number_list, lists))
+
+
 def event_cases(W, g, a, start, calls):
-    """What a list of calls comes to after an open."""
+    """What a list of quarters, closes and years comes to after an open; a year is ("year", (places, four lists))."""
     record, came = chain.open_chain(W, g, a, start), []
     for name, p in calls:
-        record, told = getattr(chain, name)(record, p)
-        came.append(event_text(name, p, told))
-    listed = " ∷ ".join([f"Call.{name} {number_list(p)}" for name, p in calls] + ["[]"])
+        for single, relatives in single_calls(name, p):
+            record, told = getattr(chain, single)(record, relatives)
+            came.append(event_text(single, relatives, told))
+            if isinstance(told, Refused):
+                break
+    listed = " ∷ ".join([made_text(name, p) for name, p in calls] + ["[]"])
     opened = f"openRecord (shared {number_list(W)} {number_list(g)}) {number_list(a)} {start}"
     yield f"events ({opened}) ({listed})", "(" + " ∷ ".join(came + ["[]"]) + ")"
 
@@ -276,6 +328,32 @@ def open_suite(rng, count):
         yield from open_cases(W, g, a, start)
 
 
+def outside_suite(rng, count):
+    """Document 02's worked openings with G, the orders and limits, random ones, and the exact side."""
+    for case in outside_cases(rng.randrange(1_000), 0):
+        if len(case.data["W"]) <= 6:
+            yield from outside_open_cases(**case.data)
+    for _ in range(count):
+        units = rng.randint(1, 4)
+        X = rng.choice([2 * 10**6, 10**8, 10**9 + 7, 2 * 10**12])
+        marks = [rng.choice([0, 1, 1, 9]) for _ in range(units)]
+        W = [X if mark else rng.choice([10**6, 10**8, 10**9 + 7]) for mark in marks]
+        g = [rng.choice([10_000, 10_000, 5_000, 9_999, 1, 0]) for _ in range(units)]
+        a = [rng.choice([100_000, 25_000, 400_000, 123_457]) if share else 0 for share in g]
+        G = faulty(rng, rng.choice([1, 3_333, 9_999, 10_000]), 0, 10_001)
+        marks = faulty(rng, marks, marks[:-1], marks + [0], [0] * units, [1] * units)
+        start = faulty(rng, 10**9, 10**8 - 1)
+        a = faulty(rng, a, a[:-1], [24_999] + a[1:], [1] + a[1:])
+        yield from outside_open_cases(W, g, a, start, marks, G)
+    for _ in range(count // 3):
+        marks = [0] + [rng.choice([0, 1, 5]) for _ in range(rng.randint(0, 2))]
+        X = rng.randrange(10**6, 10**12)
+        g = [10_000] + [rng.choice([1, 9_999, 10_000]) for _ in marks[1:]]
+        a, p, *closes = [[rng.randrange(25_000, 400_001) for _ in g] for _ in range(2 + rng.randint(0, 2))]
+        W = [X if mark else rng.randrange(10**6, 10**12) for mark in marks]
+        yield from outside_direct_cases(W, g, a, rng.randrange(10**8, 10**10 + 1), marks, rng.randrange(1, 10_001), closes, p)
+
+
 def call_suite(rng, count):
     for _ in range(count):
         units = rng.randint(1, 4)
@@ -323,6 +401,30 @@ def direct_suite(rng, count):
         yield from direct_cases(W, g, a, rng.randrange(10**8, 10**10 + 1), closes, p)
 
 
+def year_suite(rng, count):
+    """Years of one or two units, a fault at a place of some, and buffers of three places and more."""
+    for _ in range(count):
+        v = [rng.choice([10**6, 2 * 10**6, 10**9]) for _ in range(rng.randint(1, 2))]
+        lists = [[rng.choice([100_000, 101_000, 50_000, 400_000]) for _ in v] for _ in range(4)]
+        if rng.random() < 0.5:
+            place = rng.randrange(4)
+            lists[place] = faulty(rng, lists[place], lists[place][:-1], lists[place] + [100_000], [24_999] + lists[place][1:])
+        index = faulty(rng, rng.choice([10**9, 10**10, 10**8]), 10**8 - 1)
+        record = chain.Record(len(v), v + [5] * rng.randint(0, 1), index, faulty(rng, rng.choice([0, 39]), 40, 41))
+        yield from year_cases(record, lists, [7] * rng.choice([4, 4, 5, 3, 0]))
+    for intends, _, data in years.worked_years():
+        record = chain.Record(1, data["weights"][:2], data["index"], data["closes"])
+        yield from year_cases(record, [data[name] for name in years.LISTS], data["figures"])
+
+
+def some_year(rng, g):
+    """A year for a list of calls, with or without room, sometimes refused at a place."""
+    lists = [[rng.choice([99_999, 100_000, 123_457]) if share else 0 for share in g] for _ in range(4)]
+    place = rng.randrange(4)
+    lists[place] = faulty(rng, lists[place], lists[place][:-1], [24_999] + lists[place][1:])
+    return ("year", (rng.choice([3, 4, 4, 5]), *lists))
+
+
 def event_suite(rng, count):
     """Short lists with calls that are refused among them: the calls after these are answered from the record before."""
     for _ in range(count):
@@ -333,6 +435,8 @@ def event_suite(rng, count):
         for _ in range(rng.randint(0, 4)):
             p = [rng.choice([99_999, 100_000, 123_457, 400_000]) if share else 0 for share in g]
             calls.append((rng.choice(["quarter", "close"]), faulty(rng, p, p[:-1], [24_999] + p[1:], [25_000] + p[1:])))
+            if rng.random() < 0.3:
+                calls.append(some_year(rng, g))
         yield from event_cases(W, g, a, rng.choice([10**8, 10**9, 4 * 10**9]), calls)
     one = ([10**8], [10_000], [100_000], 10**9)
     forty = [("close", [100_000])] * 40
@@ -596,10 +700,12 @@ SUITES = {
     "order": lambda rng, times: order_suite(rng, 30 * times),
     "rotation": lambda rng, times: rotation_suite(rng, 40 * times),
     "open": lambda rng, times: open_suite(rng, 90 * times),
+    "outside": lambda rng, times: outside_suite(rng, 60 * times),
     "call": lambda rng, times: call_suite(rng, 90 * times),
     "renewal": lambda rng, times: renewal_suite(rng, 25 * times),
     "direct": lambda rng, times: direct_suite(rng, 15 * times),
     "events": lambda rng, times: event_suite(rng, 25 * times),
+    "year": lambda rng, times: year_suite(rng, 25 * times),
     "total": lambda rng, times: total_suite(rng, 40 * times),
     "stream": lambda rng, times: stream_suite(rng, 60 * times),
     "load": lambda rng, times: load_suite(rng, 10 * times),

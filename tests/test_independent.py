@@ -11,7 +11,13 @@ from itertools import islice
 
 import generate
 from independent import Refused
+<<<<<<< HEAD
 from independent.chain import Direct, Figure, Record, Renewed, Total, close, open_chain, quarter, renew, total, within_bound
+=======
+from cases.outsides import WORKED as OUTSIDE_WORKED
+from independent.chain import Direct, Figure, Record, Total, close, open_chain, quarter, total, within_bound, year
+from independent.outside import OutsideDirect, inner_floor, open_outside, shared_weights
+>>>>>>> mixc
 from independent.frame import Drawn, Rotated, Taken, draw, rotate, take_all, take_all_entry
 from independent.stream import COMMANDS, END, Job, front_word, read_command, run, step
 from independent.sample import share
@@ -45,6 +51,10 @@ def try_open(data):
     return open_chain(**data), None
 
 
+def try_outside(data):
+    return open_outside(**data), None
+
+
 def record_of(data):
     """The record of a quarter or close case."""
     return Record(*(data[name] for name in ("units", "weights", "index", "closes", "links")))
@@ -60,9 +70,23 @@ def try_close(data):
     return answer, record == record_of(data)
 
 
+<<<<<<< HEAD
 def try_renew(data):
     record, answer = renew(record_of(data), data["W"], data["g"], data["a"])
     return answer, record == record_of(data)
+=======
+YEAR_LISTS = ("first", "second", "third", "last", "figures")
+
+
+def year_of(data):
+    """The record, the buffer and the answer of a year case."""
+    return year(record_of(data), *(data[name] for name in YEAR_LISTS))
+
+
+def try_year(data):
+    record, figures, answer = year_of(data)
+    return answer, (record, figures[answer.count :]) == (record_of(data), data["figures"][answer.count :])
+>>>>>>> mixc
 
 
 def try_total(data):
@@ -108,9 +132,14 @@ ENTRIES = {
     "take_all_cases": (try_take_all, {1, 3, 5, 6}, 100, 5_000),
     "rotate_cases": (try_rotate, {1, 2, 3, 4, 5, 6, 7, 8}, 30, 1_000),
     "open_cases": (try_open, {9, 10, 11, 12, 13, 21, 22}, 300, 20_000),
+    "outside_cases": (try_outside, {9, 10, 11, 12, 13, 21, 22, 29}, 300, 20_000),
     "quarter_cases": (try_quarter, {9, 13, 19, 23, 24}, 300, 20_000),
     "close_cases": (try_close, {9, 13, 19, 21, 22, 23, 24}, 300, 20_000),
+<<<<<<< HEAD
     "renew_cases": (try_renew, {9, 10, 11, 13, 19, 21, 22}, 300, 20_000),
+=======
+    "year_cases": (try_year, {9, 13, 19, 21, 22, 23, 24, 28}, 200, 10_000),
+>>>>>>> mixc
     "total_cases": (try_total, {14}, 300, 20_000),
     "sample_cases": (try_share, {31}, 300, 20_000),
     "reader_cases": (try_read, {15, 16, 17}, 300, 20_000),
@@ -172,16 +201,26 @@ def test_generators_repeat(t):
         t.check([case.data for case in first] != [case.data for case in other], f"{name}: seeds differ")
 
 
+<<<<<<< HEAD
 WIDE = {"turnovers", "out_weights", "W", "weights", "index", "closes", "links", "indices", "count", "interviews", "strengths", "minima", "amounts"}
 WIDE_START = ("open_cases", "chain_cases", "panels_cases", "load_cases")
+=======
+WIDE = {"turnovers", "out_weights", "W", "weights", "index", "indices", "count", "interviews", "strengths", "minima", "amounts", "figures"}
+WIDE_START = ("open_cases", "outside_cases", "chain_cases", "outside_chain_cases", "year_chain_cases", "load_cases")
+>>>>>>> mixc
 
 
 def widest(data, name):
     """The largest number of an argument that must fit a machine word."""
     value = data[name]
     if name == "calls":
+<<<<<<< HEAD
         relatives = [lists[-1] for _, *lists in value]
         return max((relative for p in relatives for relative in p), default=0)
+=======
+        lists = [q for kind, p in value for q in (p if kind == "year" else [p])]
+        return max((p for relatives in lists for p in relatives), default=0)
+>>>>>>> mixc
     if isinstance(value, (list, bytes)):
         return max(value, default=0)
     return value
@@ -398,6 +437,31 @@ def test_open_laws(t):
             t.check(record.weights[i] == v, f"weight {i}", case)
 
 
+def test_outside_worked(t):
+    """Document 02's worked openings with G, weight by weight."""
+    for what, ((W, g, a, marks, G), weights) in OUTSIDE_WORKED.items():
+        record = open_outside(W, g, a, 10**9, marks, G)
+        t.check(record.weights == weights + [0] * (100 - len(weights)), what, record)
+
+
+def test_outside_laws(t):
+    """With no sampled unit the opening is the one without G; a take-all unit keeps its v; sampled u add to no more than the inner floor."""
+    for case in generate.outside_cases(t.seed, t.count(300, 10_000)):
+        W, g, a, start, marks, G = (case.data[name] for name in ("W", "g", "a", "start", "marks", "G"))
+        answer = open_outside(**case.data)
+        if len(marks) == len(W) and not any(marks):
+            t.check(answer == open_chain(W, g, a, start), "no sampled unit: the opening without G", case)
+        if isinstance(answer, Refused):
+            continue
+        for i in range(len(W)):
+            if not marks[i]:
+                u = math.floor(Fraction(W[i] * g[i], 10_000))
+                t.check(answer.weights[i] == math.floor(Fraction(u * a[i], 100_000)), f"take-all unit {i}", case)
+        if any(marks):
+            u = shared_weights(W, g, marks, G)
+            t.check(sum(u[i] for i in range(len(W)) if marks[i]) <= inner_floor(W, marks, G), "the sampled u", case)
+
+
 def law_of_calls(t, case):
     """Quarter and close give one F; a close moves C, v and the count, and nothing else."""
     record, p = record_of(case.data), case.data["p"]
@@ -421,6 +485,7 @@ def test_call_laws(t):
             law_of_calls(t, case)
 
 
+<<<<<<< HEAD
 def test_renewal_laws(t):
     """The opening at the record's C, but for its links; a record that a renewal leaves is never 19 and is never refused another."""
     for case in generate.renew_cases(t.seed, t.count(300, 10_000)):
@@ -444,17 +509,65 @@ def test_links(t):
     t.check((answer, record.units, record.closes, record.links) == (Renewed(), 2, 0, 40), "a renewal at forty links", record)
     t.check(quarter(record, [100_000] * 2)[1] == Refused(24), "then a quarter is 24", record)
     t.check(quarter(record, [1] * 2)[1] == Refused(13), "and 13 before it", record)
+=======
+# A year
+
+
+def law_of_year(t, case):
+    """It equals the four calls made one by one, up to a refused one."""
+    record, figures, answer = year_of(case.data)
+    held, told = record_of(case.data), []
+    for name in YEAR_LISTS[:4]:
+        held, said = (close if name == "last" else quarter)(held, case.data[name])
+        told.append(said)
+        if isinstance(said, Refused):
+            break
+    made = [said.F for said in told if isinstance(said, Figure)]
+    t.check(figures == made + case.data["figures"][len(made) :], "the figures of the accepted calls, and the other places as they were", case)
+    t.check(answer.count == len(made), "the count of accepted calls", case)
+    t.check(refusal_in(answer) == refusal_in(told[-1]), "the first refusal", case)
+    t.check(record == held, "the record that the calls leave", case)
+
+
+def test_year_laws(t):
+    counts = set()
+    for case in generate.year_cases(t.seed, t.count(300, 10_000)):
+        if len(case.data["figures"]) >= 4:
+            law_of_year(t, case)
+        answer = year_of(case.data)[2]
+        counts.add((refusal_in(answer), answer.count))
+    due = {(28, 0), (19, 0), (24, 0), (21, 3), (22, 3), (0, 4)} | {(number, count) for number in (9, 13, 23) for count in range(4)}
+    t.check(counts == due, "each refusal at each place that has it", counts ^ due)
+>>>>>>> mixc
 
 
 # Demand 3
 
 
+def single_calls(record, kind, p):
+    """The calls that this one came to, each with the record after it and its answer: a year is its calls up to a refused one."""
+    made = [("quarter", q) for q in p[:3]] + [("close", p[3])] if kind == "year" else [(kind, p)]
+    for name, relatives in made:
+        record, answer = (close if name == "close" else quarter)(record, relatives)
+        yield name, relatives, record, answer
+        if isinstance(answer, Refused):
+            return
+
+
+def opened_by(data):
+    """The record of a chain's opening, with or without an outside share, and the exact side beside it."""
+    opening = {name: value for name, value in data.items() if name != "calls"}
+    if "G" in data:
+        return open_outside(**opening), OutsideDirect(**opening)
+    return open_chain(**opening), Direct(**opening)
+
+
 def follow(t, case):
     """Make the calls of a chain; hand back each answer, with D and the floors allowed where there is a D."""
     data = case.data
-    opening = (data["W"], data["g"], data["a"], data["start"])
-    record = open_chain(*opening)
+    record, direct = opened_by(data)
     t.check(isinstance(record, Record), "the opening is accepted", case)
+<<<<<<< HEAD
     direct = Direct(*opening)
     for kind, *lists in data["calls"]:
         before = record
@@ -470,6 +583,19 @@ def follow(t, case):
         if kind == "close":
             direct.closed(*lists)
             t.check(record.links == direct.m - 1, "m counts the accepted closes of all panels", case)
+=======
+    for kind, p in data["calls"]:
+        for name, relatives, after, answer in single_calls(record, kind, p):
+            if isinstance(answer, Refused):
+                t.check(after == record, "a refused call hands the record back", case)
+                yield answer, None, None
+                continue
+            yield answer, direct.D(relatives), direct.allowed()
+            record = after
+            if name == "close":
+                direct.closed(relatives)
+                t.check(record.closes == direct.m - 1, "m counts the accepted closes", case)
+>>>>>>> mixc
 
 
 def test_demand_3(t):
@@ -487,14 +613,35 @@ def test_demand_3(t):
     t.check(figures > 20_000, "many figures", figures)
 
 
+<<<<<<< HEAD
 def test_demand_3_through_panels(t):
     refusals, most, figures = set(), 0, 0
     for case in generate.panels_cases(t.seed, t.count(1_500, 20_000)):
+=======
+def test_demand_3_with_years(t):
+    """A list with years meets the bound as its single calls do."""
+    stopped, figures = 0, 0
+    for case in generate.year_chain_cases(t.seed, t.count(600, 10_000)):
+        for answer, D, allowed in follow(t, case):
+            if D is None:
+                stopped += 1
+                continue
+            t.check(within_bound(answer.F, D, allowed), f"F = {answer.F}, D = {D}, allowed = {allowed}", case)
+            figures += 1
+    t.check(stopped > 100 and figures > 5_000, "many figures, and refused calls", (stopped, figures))
+
+
+def test_demand_3_outside(t):
+    """The same from openings with an outside share, where m + 2 floors are allowed."""
+    refusals, steps, figures = set(), set(), 0
+    for case in generate.outside_chain_cases(t.seed, t.count(1_000, 20_000)):
+>>>>>>> mixc
         for answer, D, allowed in follow(t, case):
             if D is None:
                 refusals.add(answer.number)
                 continue
             t.check(within_bound(answer.F, D, allowed), f"F = {answer.F}, D = {D}, allowed = {allowed}", case)
+<<<<<<< HEAD
             most = max(most, allowed)
             figures += 1
     t.check(refusals == {9, 13, 21, 22, 23, 24}, "the lists meet each refusal of a call or renewal", refusals)
@@ -512,6 +659,13 @@ def test_worked_panels(t):
     t.check((F, math.floor(100 * D), allowed) == (1_000_023_600, 100_007_199_571, 80), "F, D and the multiplier", (F, float(D), allowed))
     t.check(within_bound(F, D, 80) and not within_bound(F, D, 41), "m + 1 alone does not cover it", (F, float(D)))
     t.check(ends["a panel without a close"] == (1_260_000_000, 1_260_000_000, 4), "the multiplier 4", ends)
+=======
+            steps.add(allowed)
+            figures += 1
+    t.check(refusals >= {9, 13, 23, 24}, "the chains meet refusals of a call", refusals)
+    t.check(steps == set(range(3, 43)), "figures at each count of closes", steps)
+    t.check(figures > 5_000, "many figures", figures)
+>>>>>>> mixc
 
 
 # Both floors of the second weight lose nearly a millionth, and it moves apart from

@@ -5,8 +5,13 @@ from collections import Counter
 import generate
 import library
 from cases.samples import WORKED
+<<<<<<< HEAD
 from independent import Refused, chain, frame, load, register, sample, sheet, stream, writing
 from independent.chain import Direct, Figure, Record, Renewed, within_bound
+=======
+from independent import Refused, chain, frame, load, outside, register, sample, sheet, stream, writing
+from independent.chain import Direct, Figure, Record, within_bound
+>>>>>>> mixc
 
 # Refusals that each entry has; each must be met many times.
 REFUSALS = {
@@ -14,6 +19,7 @@ REFUSALS = {
     "draw_cases": {1, 2, 3, 4, 5, 6},
     "rotate_cases": {1, 2, 3, 4, 5, 6, 7, 8},
     "open_cases": {9, 10, 11, 12, 13, 21, 22},
+    "outside_cases": {9, 10, 11, 12, 13, 21, 22, 29},
     "quarter_cases": {9, 13, 19, 23, 24},
     "close_cases": {9, 13, 19, 21, 22, 23, 24},
     "renew_cases": {9, 10, 11, 13, 19, 21, 22},
@@ -132,7 +138,15 @@ def test_open(t):
     compared(t, "open_cases", 600, 30_000, lambda d: library.open_chain(**d), lambda d: chain.open_chain(**d))
 
 
+<<<<<<< HEAD
 def on_record(call, *lists):
+=======
+def test_open_outside(t):
+    compared(t, "outside_cases", 600, 30_000, lambda d: library.open_outside(**d), lambda d: outside.open_outside(**d))
+
+
+def on_record(call):
+>>>>>>> mixc
     def tried(data):
         record = Record(*(data[name] for name in ("units", "weights", "index", "closes", "links")))
         after, answer = call(record, *(data[name] for name in lists))
@@ -180,6 +194,10 @@ def test_record_list(t):
         t.check(after[104:] == [8] * (room - 104) if number == 0 else after == [8] * room, "open writes 104 places")
     answer, (*_, after) = library.call("vougecress_open", [], [], [], 10**9, [8] * 103)
     t.check(answer == 6, "6 is lower than 9")
+    for room, number in ((102, 6), (103, 0), (104, 0)):
+        answer, (*_, after) = library.call("vougecress_open_outside", *opening, [1], 10_000, [8] * room)
+        t.check(answer == number, f"open with an outside share and a record of {room} places")
+        t.check(after[103:] == [8] * (room - 103) if number == 0 else after == [8] * room, "it writes 103 places")
 
 
 def test_chains(t):
@@ -194,25 +212,47 @@ def test_chains(t):
     t.check(longest == 40, "some chain reached forty closes", repeat=longest)
 
 
+<<<<<<< HEAD
 def test_panels(t):
     """The same through several panels."""
     ends = [follow(t, case) for case in generate.panels_cases(t.seed, t.count(1_000, 10_000))]
     t.check(sum(figures for figures, _ in ends) > 1_000, "many figures were compared")
     t.check(max(links for _, links in ends) == 40, "some chain reached forty links")
+=======
+def test_outside_chains(t):
+    """The same from openings with an outside share."""
+    told = [follow(t, case) for case in generate.outside_chain_cases(t.seed, t.count(500, 10_000))]
+    t.check(sum(figures for figures, _ in told) > 1_000, "many figures were compared", repeat=len(told))
+    t.check(max(closes for _, closes in told) == 40, "some chain reached forty closes")
+
+
+def openings_of(data):
+    """A chain's opening by the library and by the independent computation, and the exact side."""
+    arguments = {name: value for name, value in data.items() if name != "calls"}
+    if "G" in data:
+        return library.open_outside(**arguments), outside.open_outside(**arguments), outside.OutsideDirect(**arguments)
+    return library.open_chain(**arguments), chain.open_chain(**arguments), Direct(**arguments)
+>>>>>>> mixc
 
 
 def follow(t, case):
     """One chain through the library beside the independent one; the count of figures and of links."""
     data = case.data
-    arguments = (data["W"], data["g"], data["a"], data["start"])
-    ours, theirs = library.open_chain(*arguments), chain.open_chain(*arguments)
+    ours, theirs, exact = openings_of(data)
     t.check(ours == theirs, "chain: the open", repeat=case)
     if isinstance(theirs, Refused):
         return 0, 0
+<<<<<<< HEAD
     exact, figures = Direct(*arguments), 0
     for name, *lists in data["calls"]:
         ours, told = getattr(library, name)(ours, *lists)
         theirs, expected = getattr(chain, name)(theirs, *lists)
+=======
+    figures = 0
+    for name, p in data["calls"]:
+        ours, told = getattr(library, name)(ours, p)
+        theirs, expected = getattr(chain, name)(theirs, p)
+>>>>>>> mixc
         t.check((told, ours) == (expected, theirs), f"chain: a {name} and the record after it", repeat=case)
         if isinstance(expected, Figure):
             figures += 1

@@ -207,6 +207,37 @@ def renew(record, W, g, a):
     return replace(open_chain(W, g, a, record.index), links=record.links), Renewed()
 
 
+# A year in one call (document 02, [6])
+
+
+@dataclass(frozen=True)
+class Year:
+    """A year that was not refused: its calls, all four."""
+
+    count: int
+
+
+@dataclass(frozen=True)
+class Stopped(Refused):
+    """ "At a refusal it stops with that number and the count of calls accepted." """
+
+    count: int
+
+
+def year(record, first, second, third, last, figures):
+    """The record and the buffer of figures after it, and how far it came."""
+    if len(figures) < 4:
+        return record, list(figures), Stopped(28, 0)
+    held, buffer, count = record, list(figures), 0
+    for call, p in ((quarter, first), (quarter, second), (quarter, third), (close, last)):
+        held, answer = call(held, p)
+        if isinstance(answer, Refused):
+            return record, buffer, Stopped(answer.number, count)
+        buffer[count] = answer.F
+        count += 1
+    return held, buffer, Year(count)
+
+
 # Demand 3: the exact side
 
 

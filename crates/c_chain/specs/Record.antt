@@ -4,7 +4,8 @@ use mathlib.Core.List.{List}
 use lib.ListN.{length}
 use lib.Dec.{ltb}
 use Rattle.rules.specs.Refusals.{Judged, refuse, _then_, judged, written}
-use Rattle.rules.specs.Chain.{Call, relatives, shared, openRefusal, openRecord, figureOf, callRefusal, accepted}
+use Rattle.rules.specs.Chain.{Call, relatives, figureOf, callRefusal, accepted}
+use Rattle.rules.specs.Panel.{Panel, panelRefusal, panelRecord}
 use Rattle.c_values.specs.Record.{recordPlaces, recordIn, recordList}
 
 -- a list that is too short is no record: 19, before all else
@@ -18,10 +19,10 @@ listAnswer xs call = judged (listRefusal xs call) (figureOf (recordIn xs) (relat
 unfoldable pub listAfter : List ℕ → Call → List ℕ
 listAfter xs call = written (listRefusal xs call) (recordList (accepted (recordIn xs) call)) xs
 
--- what open answers: 6 where the list has no room for a record, which is lower than the open's own
-unfoldable pub openedNumber : List ℕ → List ℕ → List ℕ → ℕ → List ℕ → ℕ
-openedNumber ws gs rs start xs = refuse (ltb (length xs) recordPlaces) 6 then openRefusal ws gs rs start
+-- what either open answers: 6 where the list has no room for a record, which is lower than the open's own
+unfoldable pub openedNumber : Panel → ℕ → List ℕ → ℕ
+openedNumber p start xs = refuse (ltb (length xs) recordPlaces) 6 then panelRefusal p start
 
 -- the list after an open: the new record in its first places, or as it was
-unfoldable pub openedList : List ℕ → List ℕ → List ℕ → ℕ → List ℕ → List ℕ
-openedList ws gs rs start xs = written (openedNumber ws gs rs start xs) (recordList (openRecord (shared ws gs) rs start)) xs
+unfoldable pub openedList : Panel → ℕ → List ℕ → List ℕ
+openedList p start xs = written (openedNumber p start xs) (recordList (panelRecord p start)) xs

@@ -5,6 +5,7 @@ use c_values::opening_number;
 use c_values::record;
 ghost use mathlib.Core.Path.{_≡_};
 ghost use Rattle.rules.specs.Chain.{Call};
+ghost use Rattle.rules.specs.Panel.{plain};
 ghost use Rattle.c_values.specs.Figures.{figureFrom};
 ghost use Rattle.c_chain.specs.Record.{openedNumber, openedList, listAnswer, listAfter};
 
@@ -17,8 +18,8 @@ pub extern "C" fn vougecress_open(
     start: u64,
     lent: &mut [u64],
 ) -> u32
-    ensures { λ r. ⌜ r ≡ openedNumber (now (weights .entry)) (now (shares .entry)) (now (relatives .entry)) start (now (lent .entry)) ⌝ }
-    ensures { λ _. ⌜ now (lent .exit) ≡ openedList (now (weights .entry)) (now (shares .entry)) (now (relatives .entry)) start (now (lent .entry)) ⌝ }
+    ensures { λ r. ⌜ r ≡ openedNumber (plain (now (weights .entry)) (now (shares .entry)) (now (relatives .entry))) start (now (lent .entry)) ⌝ }
+    ensures { λ _. ⌜ now (lent .exit) ≡ openedList (plain (now (weights .entry)) (now (shares .entry)) (now (relatives .entry))) start (now (lent .entry)) ⌝ }
 {
     if lent.len() < record::RECORD {
         return 6;

@@ -8,14 +8,16 @@ use native.Mathlib.Omega.{arith}
 use borrow.Author.Tests.{ltb-false, leb-false, eqb-true, not-false}
 use lib.Dec.{ltb, eqb}
 use lib.ListN.{length}
-use Rattle.rules.specs.Limits.{shareScale, relativeScale, lowestRelative, highestRelative, leastWeight, lowestIndex, mostCloses}
+use Rattle.rules.specs.Limits.{shareScale, relativeScale, lowestRelative, highestRelative, leastWeight, lowestIndex, mostPanel, mostCloses}
 use Rattle.rules.specs.Tests.{_or_, outside}
 use Rattle.rules.specs.Lists.{sum, products, scaled, anyPair}
 use Rattle.rules.specs.Chain.{Chain, Call, held, relatives, figureOf, shared, opening, badIndex, badRelative, badWeight, openInputRefusal}
 use Rattle.rules.specs.Chain.{weightRefusal, openRefusal, callInputRefusal, newWeightRefusal, figureRefusal, callRefusal}
+use Rattle.rules.specs.Panel.{outsideShared, badOutside, badInner, outsideInputRefusal, outsideRefusal}
 use Rattle.rules.proofs.Tests.{or-false, within}
 use Rattle.rules.proofs.Refusals.{refuse-none, then-none}
 use Rattle.rules.proofs.Chains.{openable, admitted}
+use Rattle.rules.proofs.Panels.{length-each}
 use Rattle.chain_bound.proofs.Weights.{Reached}
 
 -- Of each place: the relative is 0 for an absent unit, whose mark is 0, and at least `low` for a present one.
@@ -121,6 +123,7 @@ pub record Opened (us rs : List ℕ) (start : ℕ) : Type 0 where
 pub record Shared (ws gs : List ℕ) : Type 0 where
   pub shares : Reached leastWeight shareScale ws gs
   pub long : length (shared ws gs) ≡ length ws
+  pub most : length ws ≤ mostPanel
 
 -- 12 does not apply
 started-high : (ws gs rs : List ℕ) (start : ℕ) → openInputRefusal ws gs rs start ≡ 0 → lowestIndex ≤ start
@@ -129,21 +132,55 @@ started-high ws gs rs start e =
     let p11 : _ = then-none _ _ (then-none _ _ (then-none _ _ e .1) .1) in
     within _ _ _ (refuse-none _ 11 (then-none _ _ (p11 .1) .0)) .0
 
+-- 9 to 13 do not apply, nor do 21 and 22 to the v of these u
+opened-from : (ws gs rs us : List ℕ) (start : ℕ) → openInputRefusal ws gs rs start ≡ 0 → length us ≡ length ws → weightRefusal gs (opening us rs) ≡ 0 → Opened us rs start
+unfolding weightRefusal
+opened-from ws gs rs us start input long weights =
+    let o = openable ws gs rs start input in
+    let fits = fit gs rs (o .lists .relatives ∙ sym (o .lists .shares)) (o .relatives) in
+    let v = reached relativeScale us (long ∙ sym (o .lists .shares)) fits (refuse-none _ 20 (then-none _ _ weights .0)) in
+    record {
+      started = started-high ws gs rs start input;
+      updates = v;
+      long = reached-length v ∙ o .lists .relatives ∙ sym long;
+    }
+
 pub accepted-open : (ws gs rs : List ℕ) (start : ℕ) → openRefusal ws gs rs start ≡ 0 → Shared ws gs × Opened (shared ws gs) rs start
-unfolding openRefusal weightRefusal
+unfolding openRefusal
 accepted-open ws gs rs start e =
     let input : _ = then-none _ _ e in
     let weights : _ = then-none _ _ (input .1) in
     let o = openable ws gs rs start (input .0) in
-    let lg = sym (o .lists .shares) in
-    let first = reached shareScale ws lg (itself gs) (refuse-none _ 20 (weights .0)) in
-    let fits = fit gs rs (o .lists .relatives ∙ lg) (o .relatives) in
-    let second = reached relativeScale (shared ws gs) (reached-length first) fits (refuse-none _ 20 (then-none _ _ (weights .1) .0)) in
-    let units = reached-length first ∙ o .lists .shares in (
-      record { shares = first; long = units },
+    let u = reached shareScale ws (sym (o .lists .shares)) (itself gs) (refuse-none _ 20 (weights .0)) in
+    let units = reached-length u ∙ o .lists .shares in
+    (record { shares = u; long = units; most = o .lists .most }, opened-from ws gs rs (shared ws gs) start (input .0) units (weights .1))
+
+-- ---- open with an outside share
+-- What it tells of the u of W, g, marks and an outside share: 29 does not apply, nor does 21 to the inner floor or a u.
+pub record Outsided (domain : ℕ) (ms ws gs : List ℕ) : Type 0 where
+  pub outside : badOutside domain ms ws gs ≡ false
+  pub inner : badInner domain ms ws ≡ false
+  pub present : anyPair badWeight gs (outsideShared domain ms ws gs) ≡ false
+  pub long : length (outsideShared domain ms ws gs) ≡ length ws
+  pub most : length ws ≤ mostPanel
+
+pub accepted-outside : (domain : ℕ) (ms ws gs rs : List ℕ) (start : ℕ) → outsideRefusal domain ms ws gs rs start ≡ 0 →
+    Outsided domain ms ws gs × Opened (outsideShared domain ms ws gs) rs start
+unfolding outsideRefusal outsideInputRefusal outsideShared
+accepted-outside domain ms ws gs rs start e =
+    let input : _ = then-none _ _ e in
+    let marks : _ = then-none _ _ (input .0) in
+    let lists : _ = then-none _ _ (marks .1) in
+    let inner : _ = then-none _ _ (input .1) in
+    let weights : _ = then-none _ _ (inner .1) in
+    let o = openable ws gs rs start (lists .0) in
+    let units = length-each _ ms ws gs (eqb-true _ _ (not-false _ (refuse-none _ 8 (marks .0)))) (o .lists .shares) in (
       record {
-        started = started-high ws gs rs start (input .0);
-        updates = second;
-        long = reached-length second ∙ o .lists .relatives ∙ sym units;
+        outside = refuse-none _ 28 (lists .1);
+        inner = refuse-none _ 20 (inner .0);
+        present = refuse-none _ 20 (weights .0);
+        long = units;
+        most = o .lists .most;
       },
+      opened-from ws gs rs (outsideShared domain ms ws gs) start (lists .0) units (weights .1),
     )

@@ -13,11 +13,12 @@ use Rattle.rules.specs.Refusals.{Judged, refuse, _then_}
 use Rattle.rules.specs.Lists.{sum, products, scaled, anyOf, anyPair}
 use Rattle.rules.specs.Chain.{Chain, Call, relatives, held, shared, badIndex, badRelative, badWeight, badUnits, badOpenLists, badBase, badShares, openInputRefusal, weightRefusal}
 use Rattle.rules.specs.Chain.{openRefusal, openRecord, openAnswer, link, figureAt, badLinks, broken, callInputRefusal, figureRefusal, callRefusal, callAnswer, after}
-use Rattle.rules.specs.Events.{Event, eventOf, events}
-use Rattle.rules.specs.Direct.{Direct, exactOpen, exactMoved, directOpen, numerator, denominator, Within, AllWithin}
+use Rattle.rules.specs.Panel.{plain, panelAnswer}
+use Rattle.rules.specs.Events.{Event, Made, eventOf, singles, events}
+use Rattle.rules.specs.Direct.{Direct, exactOpen, panelExact, exactMoved, directOpen, numerator, denominator, Within, AllWithin}
 use Rattle.rules.proofs.Tests.{never}
 use Rattle.chain_bound.specs.Sentence.{closesIn, directTop, directBottom}
-use Rattle.chain_bound.proofs.Demand3.{demand3}
+use Rattle.chain_bound.proofs.Demand3.{demand3-calls}
 
 -- ---- the listing: each relative ten times document 01's ([5]): 100,000 each, open at 1,000,000,000, 105,000, 98,000, 120,000, close, …, quarter
 abbrev ws : List ℕ
@@ -46,7 +47,7 @@ abbrev record₀ : Chain
 record₀ = openRecord (shared ws wholes) ones start
 
 abbrev direct₀ : Direct
-direct₀ = directOpen ws wholes ones start
+direct₀ = directOpen (plain ws wholes ones) start
 
 -- ---- an open whose two floors both lose nearly 1 of a weight of a million
 abbrev lowBase : List ℕ
@@ -59,7 +60,7 @@ abbrev lowUpdates : List ℕ
 lowUpdates = 100100 ∷ 100000 ∷ []
 
 abbrev lowDirect : Direct
-lowDirect = directOpen lowBase lowShares lowUpdates start
+lowDirect = directOpen (plain lowBase lowShares lowUpdates) start
 
 -- the relatives pull the two units as far apart as they may
 abbrev apart : List ℕ
@@ -75,22 +76,22 @@ record₁ = after record₀ firstClose
 -- ---- what the calls come to
 pub record Answered : Type 0 where
   pub listing-opens : openAnswer ws wholes ones start ≡ Judged.given record₀
-  pub listing-events : events record₀ listing ≡ Event.answered firstClose 1062000000 ∷ Event.answered lastQuarter 1063799994 ∷ []
+  pub listing-events : singles record₀ listing ≡ Event.answered firstClose 1062000000 ∷ Event.answered lastQuarter 1063799994 ∷ []
   -- a relative of 24,999 between the listing's two calls
-  pub listing-refused : events record₀ (firstClose ∷ Call.close (24999 ∷ 100000 ∷ 100000 ∷ []) ∷ lastQuarter ∷ []) ≡
+  pub listing-refused : singles record₀ (firstClose ∷ Call.close (24999 ∷ 100000 ∷ 100000 ∷ []) ∷ lastQuarter ∷ []) ≡
       Event.answered firstClose 1062000000 ∷ Event.refused 13 ∷ Event.answered lastQuarter 1063799994 ∷ []
   -- forty closes answer figures; after them a close and a quarter are refused by 24, not earlier
-  pub forty-closes : events record₀ (replicate 40 (Call.close ones) ++ Call.close ones ∷ Call.quarter ones ∷ []) ≡
+  pub forty-closes : singles record₀ (replicate 40 (Call.close ones) ++ Call.close ones ∷ Call.quarter ones ∷ []) ≡
       replicate 40 (Event.answered (Call.close ones) 1000000000) ++ Event.refused 24 ∷ Event.refused 24 ∷ []
   pub low-opens : openAnswer lowBase lowShares lowUpdates start ≡ Judged.given (openRecord (shared lowBase lowShares) lowUpdates start)
-  pub low-events : events (openRecord (shared lowBase lowShares) lowUpdates start) (Call.quarter apart ∷ []) ≡ Event.answered (Call.quarter apart) 1001198920 ∷ []
+  pub low-events : singles (openRecord (shared lowBase lowShares) lowUpdates start) (Call.quarter apart ∷ []) ≡ Event.answered (Call.quarter apart) 1001198920 ∷ []
   pub stopped-events : eventOf firstClose (callAnswer record₀ firstClose) ∷ eventOf secondClose (callAnswer record₁ secondClose)
       ∷ eventOf lastQuarter (callAnswer record₁ lastQuarter) ∷ [] ≡
       Event.answered firstClose 1062000000 ∷ Event.answered secondClose 1208999990 ∷ Event.answered lastQuarter 1063799994 ∷ []
 
 pub answered : Answered
 unfolding _or_ outside refuse _then_ sum products scaled anyOf anyPair held badIndex badRelative badWeight badUnits badOpenLists badBase badShares
-    openInputRefusal weightRefusal openRefusal openRecord openAnswer link figureAt badLinks broken callInputRefusal figureRefusal callRefusal callAnswer after events
+    openInputRefusal weightRefusal openRefusal openRecord openAnswer link figureAt badLinks broken callInputRefusal figureRefusal callRefusal callAnswer after singles
 answered =
     record {
       listing-opens = refl;
@@ -104,7 +105,8 @@ answered =
 
 -- what the theorem says of the listing's two figures
 pub listing-within : AllWithin direct₀ (Event.answered firstClose 1062000000 ∷ Event.answered lastQuarter 1063799994 ∷ [])
-listing-within = rw (answered .listing-events) at (demand3 ws wholes ones start record₀ (answered .listing-opens) listing)
+unfolding openAnswer panelAnswer
+listing-within = rw (answered .listing-events) at (demand3-calls (plain ws wholes ones) start record₀ (answered .listing-opens) listing)
 
 -- "Here D is 1,063,800,000": the last quarter's, spelt out
 abbrev es : List ℕ
@@ -118,25 +120,25 @@ unfolding sum products
 listing-direct = refl
 
 -- "A refused call … changes nothing"
-pub refused-changes-nothing : (r : Chain) (call : Call) (calls : List Call) (n : ℕ) → callRefusal r call ≡ suc n →
-    events r (call ∷ calls) ≡ Event.refused (suc n) ∷ events r calls
-unfolding events callAnswer after
-refused-changes-nothing r call calls n e = rw e
+pub refused-changes-nothing : (r : Chain) (call : Call) (list : List Made) (n : ℕ) → callRefusal r call ≡ suc n →
+    events r (Made.call call ∷ list) ≡ Event.refused (suc n) ∷ events r list
+unfolding events singles callAnswer after
+refused-changes-nothing r call list n e = rw e
 
 -- ---- what the bound rules out
 -- the bound cannot have m for m + 1
 pub low-needs-m-plus-one : Within 1001198920 (numerator lowDirect apart) (denominator lowDirect apart) (lowDirect .m) → ⊥
-unfolding sum products exactOpen exactMoved directOpen numerator denominator
+unfolding sum products exactOpen panelExact exactMoved directOpen numerator denominator
 low-needs-m-plus-one w = never _ _ refl (w .notBelow)
 
 -- "keeping old weights at close gives 1,063,593,000 in the last line"
 pub old-weights-fall : AllWithin direct₀ (Event.answered firstClose 1062000000 ∷ Event.answered lastQuarter 1063593000 ∷ []) → ⊥
-unfolding sum products exactOpen exactMoved directOpen numerator denominator
+unfolding sum products exactOpen panelExact exactMoved directOpen numerator denominator
 old-weights-fall w = never _ _ refl (w .1 .0 .notBelow)
 
 -- one figure for every call
 pub fixed-figure-falls : (f : ℕ) → AllWithin direct₀ (Event.answered firstClose f ∷ Event.answered lastQuarter f ∷ []) → ⊥
-unfolding sum products exactOpen exactMoved directOpen numerator denominator
+unfolding sum products exactOpen panelExact exactMoved directOpen numerator denominator
 fixed-figure-falls f w = go (decLe f 1063000000)
   where
     go : Dec (f ≤ 1063000000) → ⊥
@@ -146,7 +148,7 @@ fixed-figure-falls f w = go (decLe f 1063000000)
 -- the program whose second close does not move its record
 pub stopped-closes-fall : AllWithin direct₀ (eventOf firstClose (callAnswer record₀ firstClose) ∷ eventOf secondClose (callAnswer record₁ secondClose)
     ∷ eventOf lastQuarter (callAnswer record₁ lastQuarter) ∷ []) → ⊥
-unfolding sum products exactOpen exactMoved directOpen numerator denominator
+unfolding sum products exactOpen panelExact exactMoved directOpen numerator denominator
 stopped-closes-fall w = never _ _ refl ((rw (answered .stopped-events) at w) .1 .1 .0 .notBelow)
 
 -- A chain that only refuses has no figure to bound: it meets demand 3, and falls by demand 2, since its answers are not the defined ones.
@@ -154,5 +156,5 @@ pub only-refusals-within : (d : Direct) (times n : ℕ) → AllWithin d (replica
 only-refusals-within d zero n = tt
 only-refusals-within d (suc times) n = only-refusals-within d times n
 
-pub only-refusals-fall : (n : ℕ) → events record₀ listing ≡ replicate 2 (Event.refused n) → ⊥
+pub only-refusals-fall : (n : ℕ) → singles record₀ listing ≡ replicate 2 (Event.refused n) → ⊥
 only-refusals-fall n e = let z : _≡_ {A = ℕ} 0 1 = cc (answered .listing-events) in omega arith

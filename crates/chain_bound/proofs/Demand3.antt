@@ -1,42 +1,51 @@
--- Demand 3 of document 01, undivided: whatever list of calls follows an accepted open, every figure that is answered is within the bound
--- of the exact direct index D. By induction over the calls, with `Carried` from call to call.
-use mathlib.Core.Path.{_≡_, refl, sym}
-use Prim.Native.Nat.{ℕ, zero, suc}
-use mathlib.Core.List.{List, [], _∷_}
+-- Demand 3 of document 01, undivided, with the years of document 02, [6]: whatever list of quarters, closes and years follows an accepted open, with or
+-- without an outside share ([7]), every figure that is answered is within the bound of the exact direct index D. By induction over the list, with `Carried` from call to call.
+use mathlib.Core.Path.{_≡_, refl, sym, ap, subst}
+use Prim.Native.Nat.{ℕ, zero, suc, _<_}
+use mathlib.Core.List.{List, [], _∷_, _++_, map}
 use native.Mathlib.Omega.{arith}
-use Rattle.rules.specs.Limits.{shareScale}
 use Rattle.rules.specs.Refusals.{Judged, judged, stays}
-use Rattle.rules.specs.Lists.{products}
-use Rattle.rules.specs.Chain.{Chain, Call, relatives, shared, openRefusal, openRecord, openAnswer, figureOf, callRefusal, callAnswer, accepted, after}
-use Rattle.rules.specs.Events.{Event, eventOf, events}
-use Rattle.rules.specs.Direct.{Direct, directOpen, directAfter, AllWithin}
+use Rattle.rules.specs.Chain.{Chain, Call, relatives, openRecord, figureOf, callRefusal, callAnswer, accepted, after}
+use Rattle.rules.specs.Panel.{Outside, Panel, sampledSize, panelShared, panelRefusal, panelRecord, panelAnswer}
+use Rattle.rules.specs.Year.{fourCalls, yearCalls, afterAll}
+use Rattle.rules.specs.Events.{Event, Made, eventOf, singles, cameTo, leftBy, events}
+use Rattle.rules.specs.Direct.{Direct, panelExact, extraFor, extraBy, directOpen, directAfter, AllWithin}
 use Rattle.rules.proofs.Refusals.{given-tells}
-use Rattle.chain_bound.specs.Losses.{parts, weightLoss, openFloors}
+use Rattle.rules.proofs.Years.{year-left}
+use Rattle.chain_bound.specs.Losses.{openFloors}
 use Rattle.chain_bound.specs.Trace.{Trace}
-use Rattle.chain_bound.proofs.Weights.{whole, move}
-use Rattle.chain_bound.proofs.Accepted.{accepted-call, accepted-open, closed-reached}
+use Rattle.chain_bound.proofs.Accepted.{accepted-call, closed-reached}
+use Rattle.chain_bound.proofs.Shares.{shares-near}
 use Rattle.chain_bound.proofs.Panel.{unmoved, panel-opens}
 use Rattle.chain_bound.proofs.Carried.{Carried, call-within, close-carried}
 
 -- ---- the open
--- The record of an accepted open beside the exact side: u has one floor and v one more, and D's start index is the start index itself.
-open-carried : (ws gs rs : List ℕ) (start : ℕ) → openRefusal ws gs rs start ≡ 0 → Carried (directOpen ws gs rs start) (openRecord (shared ws gs) rs start)
-unfolding directOpen openRecord
-open-carried ws gs rs start e =
-    let o = accepted-open ws gs rs start e in
-    let us = move weightLoss (omega arith) (omega arith) (omega arith) (whole parts ws) (o .0 .shares) in
+-- The record of an accepted open beside the exact side: v has one floor more than u, and D's start index is the start index itself.
+open-carried : (p : Panel) (start : ℕ) → panelRefusal p start ≡ 0 → Carried (directOpen p start) (panelRecord p start)
+unfolding directOpen panelExact openRecord
+open-carried p start e =
+    let o = shares-near (p .outside) (p .base) (p .shares) (p .updates) start e in
+    let shared = extraBy (p .outside) (p .base) in
     record {
       before = 0;
       earlier = 0;
       from = start;
-      floored = openFloors;
+      floored = openFloors shared;
       start = unmoved (omega arith);
       bottomPositive = omega arith;
-      panel = panel-opens (shared ws gs) rs start (o .1) openFloors shareScale (products ws gs) (omega arith) (omega arith) us;
-      counted = refl;
-      figures = omega arith;
-      small = omega arith;
+      panel = panel-opens (panelShared p) (p .updates) start (o .1) (openFloors shared) _ _ (o .0 .scalePositive) (omega arith) (o .0 .tracks);
+      counted = omega arith;
+      figures = omega (arith, some (p .outside) (p .base));
+      small = omega (arith, o .0 .few);
     }
+  where
+    some : (o : Outside) (ws : List ℕ) → 0 < extraBy o ws
+    some Outside.none ws = omega arith
+    some (Outside.share domain ms) ws = more (sampledSize ms ws)
+      where
+        more : (n : ℕ) → 0 < extraFor n
+        more zero = omega arith
+        more (suc n) = omega arith
 
 -- ---- the record and the exact side after an accepted call
 after-carried : (d : Direct) (r : Chain) (call : Call) → Carried d r → callRefusal r call ≡ 0 → Carried (directAfter d call) (accepted r call)
@@ -44,38 +53,71 @@ after-carried d r (Call.quarter ps) i e = i
 after-carried d r (Call.close ps) i e =
     close-carried d r ps i (accepted-call r (i .panel .full) (Call.close ps) e) (closed-reached r (i .panel .full) ps e)
 
--- ---- every list of calls
--- An accepted call is within the bound and both sides move on; a refused one has no D and changes neither.
-all-within : (calls : List Call) (d : Direct) (r : Chain) → Carried d r → AllWithin d (events r calls)
-unfolding events callAnswer after
-all-within [] d r i = tt
-all-within (call ∷ calls) d r i = go (callRefusal r call) refl (λ e s j. all-within calls e s j)
+-- ---- every list
+-- What comes after is within the bound, from whatever exact side belongs to the record.
+abbrev Later : Chain → List Event → Type 0
+Later r rest = (d : Direct) → Carried d r → AllWithin d rest
+
+-- Single calls: an accepted one is within the bound and both sides move on; a refused one has no D and changes neither.
+calls-within : (calls : List Call) (d : Direct) (r : Chain) (rest : List Event) → Carried d r → Later (afterAll r calls) rest →
+    AllWithin d (singles r calls ++ rest)
+unfolding singles afterAll callAnswer after
+calls-within [] d r rest i later = later d i
+calls-within (call ∷ calls) d r rest i later = go (callRefusal r call) refl (λ e s j. calls-within calls e s rest j) later
   where
-    go : (n : ℕ) → callRefusal r call ≡ n → ((e : Direct) (s : Chain) → Carried e s → AllWithin e (events s calls)) →
-        AllWithin d (eventOf call (judged n (figureOf r (relatives call))) ∷ events (stays n r (accepted r call)) calls)
-    go zero e rest =
-        (call-within d r (relatives call) i (accepted-call r (i .panel .full) call e), rest (directAfter d call) (accepted r call) (after-carried d r call i e))
-    go (suc n) e rest = rest d r i
+    go : (n : ℕ) → callRefusal r call ≡ n →
+        ((e : Direct) (s : Chain) → Carried e s → Later (afterAll s calls) rest → AllWithin e (singles s calls ++ rest)) →
+        Later (afterAll (stays n r (accepted r call)) calls) rest →
+        AllWithin d (eventOf call (judged n (figureOf r (relatives call))) ∷ singles (stays n r (accepted r call)) calls ++ rest)
+    go zero e more later = (
+      call-within d r (relatives call) i (accepted-call r (i .panel .full) call e),
+      more (directAfter d call) (accepted r call) (after-carried d r call i e) later,
+    )
+    go (suc n) e more later = more d r i later
+
+-- What stands in the list: a call is itself, a year the single calls that it came to.
+made-within : (made : Made) (d : Direct) (r : Chain) (rest : List Event) → Carried d r → Later (leftBy r made) rest → AllWithin d (cameTo r made ++ rest)
+unfolding afterAll
+made-within (Made.call c) d r rest i later = calls-within (c ∷ []) d r rest i later
+made-within (Made.year places q₁ q₂ q₃ ps) d r rest i later =
+    calls-within (yearCalls r places (fourCalls q₁ q₂ q₃ ps)) d r rest i
+    (subst (λ (s : Chain). Later s rest) (year-left r places q₁ q₂ q₃ ps) later)
+
+all-within : (list : List Made) (r : Chain) → Later r (events r list)
+unfolding events
+all-within [] r d i = tt
+all-within (made ∷ list) r d i = made-within made d r (events (leftBy r made) list) i (all-within list (leftBy r made))
+
+-- a list without years comes to what its calls come to
+without-years : (r : Chain) (calls : List Call) → events r (map Made.call calls) ≡ singles r calls
+unfolding events singles
+without-years r [] = refl
+without-years r (call ∷ calls) = ap (λ (l : List Event). eventOf call (callAnswer r call) ∷ l) (without-years (after r call) calls)
 
 -- ---- what a program answers
 -- What calls that meet the contracts one after the other come to is the defined list of events.
-trace-events : {r : Chain} {calls : List Call} {given : List Event} → Trace r calls given → given ≡ events r calls
+trace-events : {r : Chain} {list : List Made} {given : List Event} → Trace r list given → given ≡ events r list
 unfolding events
 trace-events Trace.done = refl
 trace-events (Trace.next met t) = cc (trace-events t)
 
-module _ (ws gs rs : List ℕ) (start : ℕ) (r : Chain) (accepts : openAnswer ws gs rs start ≡ Judged.given r) where
-  -- Demand 3: of any open that is accepted, and any calls after it. D is reckoned from the open's arguments and the calls alone.
-  pub demand3 : (calls : List Call) → AllWithin (directOpen ws gs rs start) (events r calls)
-  unfolding openAnswer
-  demand3 calls =
-      let o = given-tells (openRefusal ws gs rs start) _ r (sym accepts) in
-      all-within calls (directOpen ws gs rs start) r (rw (o .1) (open-carried ws gs rs start (o .0)))
+module _ (p : Panel) (start : ℕ) (r : Chain) (accepts : panelAnswer p start ≡ Judged.given r) where
+  -- Demand 3: of any open that is accepted, with or without an outside share, and any quarters, closes and years after it. D is reckoned from the open's
+  -- arguments and the calls alone.
+  pub demand3 : (list : List Made) → AllWithin (directOpen p start) (events r list)
+  unfolding panelAnswer
+  demand3 list =
+      let o = given-tells (panelRefusal p start) _ r (sym accepts) in
+      all-within list r (directOpen p start) (rw (o .1) (open-carried p start (o .0)))
 
-  -- Of any program whose quarter and close meet their contracts: its calls come to the defined events from the open's record on, within the bound.
-  pub demand3-trace : (calls : List Call) (given : List Event) → Trace r calls given →
-      (given ≡ events (openRecord (shared ws gs) rs start) calls) × AllWithin (directOpen ws gs rs start) given
-  unfolding openAnswer
-  demand3-trace calls given t =
+  -- its case without years
+  pub demand3-calls : (calls : List Call) → AllWithin (directOpen p start) (singles r calls)
+  demand3-calls calls = rw (without-years r calls) at (demand3 (map Made.call calls))
+
+  -- Of any program whose quarter, close and year meet their contracts: its list comes to the defined events from the open's record on, within the bound.
+  pub demand3-trace : (list : List Made) (given : List Event) → Trace r list given →
+      (given ≡ events (panelRecord p start) list) × AllWithin (directOpen p start) given
+  unfolding panelAnswer
+  demand3-trace list given t =
       let same = trace-events t in
-      (rw (← (given-tells (openRefusal ws gs rs start) _ r (sym accepts) .1)) same, rw same (demand3 calls))
+      (rw (← (given-tells (panelRefusal p start) _ r (sym accepts) .1)) same, rw same (demand3 list))

@@ -2,8 +2,10 @@ pub mod Near
 pub mod Growth
 pub mod Weights
 pub mod Accepted
+pub mod Shares
 pub mod Panel
 pub mod Carried
+pub mod Joint
 pub mod Demand3
 pub mod Sentence
 pub mod Cases

@@ -26,9 +26,13 @@ indexLoss = 1
 abbrev pub figureLoss : ℕ
 figureLoss = linkLoss + indexLoss
 
--- floors of a weight at the open: u and v
-abbrev pub openFloors : ℕ
-openFloors = 2
+-- floors of a weight at the open: those of u, one, or two with an outside share (the inner floor), and v's
+abbrev pub openFloors : ℕ → ℕ
+openFloors shared = shared + 1
+
+-- so many of u at most
+abbrev pub mostShared : ℕ
+mostShared = 2
 
 -- floors of a weight at each close
 abbrev pub closeFloors : ℕ

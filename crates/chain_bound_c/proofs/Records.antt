@@ -1,16 +1,19 @@
 -- A record with a place for each unit of the largest panel: an open makes one, each call keeps it so, and the list in which it was laid holds it.
 use mathlib.Core.Path.{_≡_, refl, ap, _∙_}
-use mathlib.Core.List.{List}
+use mathlib.Core.List.{List, [], _∷_}
 use Prim.Native.Nat.{ℕ, zero, suc, _-_, _≤_}
 use native.Mathlib.Omega.{arith}
 use lib.ListN.{length, drop, replicate, length-append, length-drop, length-replicate}
 use lib.Seq.{length-take-le, take-at}
 use Rattle.rules.specs.Limits.{mostPanel}
 use Rattle.rules.specs.Refusals.{stays, written}
-use Rattle.rules.specs.Chain.{Chain, Call, held, shared, opening, moved, openRefusal, openRecord, callRefusal, accepted, after}
+use Rattle.rules.specs.Chain.{Chain, Call, held, opening, moved, openRecord, callRefusal, accepted, after}
+use Rattle.rules.specs.Panel.{Panel, panelShared, panelRefusal, panelRecord}
+use Rattle.rules.specs.Year.{afterAll}
 use Rattle.rules.proofs.Refusals.{then-none}
-use Rattle.rules.proofs.Chains.{openable, admitted}
-use Rattle.chain_bound.proofs.Accepted.{accepted-open, closed-reached, reached-length}
+use Rattle.rules.proofs.Chains.{admitted}
+use Rattle.chain_bound.proofs.Accepted.{closed-reached, reached-length}
+use Rattle.chain_bound.proofs.Shares.{shares-near}
 use Rattle.c_values.specs.Record.{recordPlaces, recordIn, recordList}
 
 abbrev pub Full : Chain → Type 0
@@ -35,18 +38,17 @@ left-in (suc n) xs next room full = (refl, room)
 pub full-in : (xs : List ℕ) → recordPlaces ≤ length xs → Full (recordIn xs)
 full-in xs long = length-take-le mostPanel (drop 4 xs) (omega (arith, long, length-drop 4 xs))
 
-pub full-open : (ws gs rs : List ℕ) (start : ℕ) → openRefusal ws gs rs start ≡ 0 → Full (openRecord (shared ws gs) rs start)
-unfolding openRecord openRefusal
-full-open ws gs rs start e =
-    let most = openable ws gs rs start (then-none _ _ e .0) .lists .most in
-    let o = accepted-open ws gs rs start e in
-    let rest = mostPanel - length (shared ws gs) in
+pub full-open : (p : Panel) (start : ℕ) → panelRefusal p start ≡ 0 → Full (panelRecord p start)
+unfolding openRecord
+full-open p start e =
+    let o = shares-near (p .outside) (p .base) (p .shares) (p .updates) start e in
+    let rest = mostPanel - length (panelShared p) in
     omega (
       arith,
-      most,
+      o .0 .most,
       o .0 .long,
       o .1 .long,
-      length-append (opening (shared ws gs) rs) (replicate rest 0),
+      length-append (opening (panelShared p) (p .updates)) (replicate rest 0),
       length-replicate {A = ℕ} rest 0,
     )
 
@@ -67,3 +69,8 @@ module _ (r : Chain) (full : Full r) where
       go : (n : ℕ) → callRefusal r call ≡ n → Full (stays n r (accepted r call))
       go zero e = full-accepted call e
       go (suc n) e = full
+
+pub full-all : (calls : List Call) (r : Chain) → Full r → Full (afterAll r calls)
+unfolding afterAll
+full-all [] r full = full
+full-all (call ∷ calls) r full = full-all calls (after r call) (full-after r full call)

@@ -1,14 +1,18 @@
--- Demand 3 for the code: whatever quarter and close calls follow an open that the code accepts, refused ones among them, each comes to what
+-- Demand 3 for the code: whatever quarter, close and year calls follow an open that the code accepts, with or without an outside share, refused ones among them, each comes to what
 -- document 01's rules give from the opened record on, and every figure is within the bound of the exact direct index. By the contracts, calls of
 -- the code are a trace of the definitions; the rest is `chain_bound`.
-use mathlib.Core.Path.{_≡_, sym, ap, _∙_}
+use mathlib.Core.Path.{_≡_, refl, sym, ap, _∙_}
 use mathlib.Core.List.{List}
 use Prim.Native.Nat.{ℕ}
+use base.Logic.{emp}
 use contract.Lifetimes.{Lfts}
 use denote.Ref.{RefT, now}
+use borrow.Fn.World.{World, ArgsD}
 use Rattle.rules.specs.Refusals.{Judged}
 use Rattle.rules.specs.Chain as rules
-use Rattle.rules.specs.Events.{Event, events}
+use Rattle.rules.specs.Panel.{Panel, panelRecord, panelAnswer}
+use Rattle.rules.specs.Year.{fourCalls, yearOf}
+use Rattle.rules.specs.Events.{Event, Made, events}
 use Rattle.rules.specs.Direct.{directOpen, AllWithin}
 use Rattle.chain.specs.Record.{recordOf}
 use Rattle.chain.specs.declared.Chain.{Chain}
@@ -18,13 +22,21 @@ use Rattle.chain_open.specs.Opened.{openingBy}
 use Rattle.chain_open.specs.declared.Opening.{Opening}
 use Rattle.chain_open.specs.declared.Opened.{Opened}
 use Rattle.chain_open.proofs.«open».Reads as open-reads
+use Rattle.chain_open.proofs.open_outside.Reads as open-outside-reads
 use Rattle.chain_bound.specs.Trace.{Trace}
+use Rattle.chain_bound.proofs.Joint.{call-met, year-met}
 use Rattle.chain_bound.proofs.Demand3.{demand3-trace}
-use Rattle.chain_bound_code.specs.Calls.{OpenMade, CallsMade}
+use Rattle.chain_year.specs.Run.{yearWith}
+use Rattle.chain_year.proofs.year as year-contract
+use Rattle.chain_bound_code.specs.Calls.{PanelOpened, CallsMade}
 
--- None of the three asks anything of its caller: every list of calls can be made.
+-- None of the four asks anything of its caller: every list of calls can be made.
 pub open-asks : (κs : Lfts 3) (w g a : RefT (List ℕ)) (start : ℕ) → open-reads.Asked κs (w, (g, (a, (start, tt))))
 open-asks κs w g a start = tt
+
+pub open-outside-asks : (κs : Lfts 4) (w g a marks : RefT (List ℕ)) (start domain : ℕ) →
+    open-outside-reads.Asked κs (w, (g, (a, (start, (marks, (domain, tt))))))
+open-outside-asks κs w g a marks start domain = tt
 
 pub quarter-asks : (κs : Lfts 1) (c : Chain) (p : RefT (List ℕ)) → quarter-reads.Asked κs (c, (p, tt))
 quarter-asks κs c p = tt
@@ -32,18 +44,29 @@ quarter-asks κs c p = tt
 pub close-asks : (κs : Lfts 1) (c : Chain) (p : RefT (List ℕ)) → close-reads.Asked κs (c, (p, tt))
 close-asks κs c p = tt
 
--- calls of the code are a trace of the definitions
-trace : {c : Chain} {calls : List rules.Call} {given : List Event} → CallsMade c calls given → Trace (recordOf c) calls given
-trace CallsMade.done = Trace.done
-trace (CallsMade.quarter m rest) = Trace.next (record { answers = m .learnt .0; leaves = m .learnt .1 }) (trace rest)
-trace (CallsMade.close m rest) = Trace.next (record { answers = m .learnt .0; leaves = m .learnt .1 }) (trace rest)
+pub year-asks : (w : World) (κs : Lfts 6) (a : ArgsD year-contract.signature κs) →
+    year-contract.clauses (w .𝓤) (w .H) (w .𝓖 .A) (w .𝓜 .mem) (w .𝓡 .run) κs a .requires tt ≡ emp (w .𝓤)
+year-asks w κs a = refl
 
--- The theorem: w, g, a and start are what the open was handed, o is what it handed back.
-pub demand3 : (w g a : RefT (List ℕ)) (start : ℕ) (o : Opened) → OpenMade w g a start o → o .answer ≡ Opening.Accepted →
-    (calls : List rules.Call) (given : List Event) → CallsMade (o .chain) calls given →
-    (given ≡ events (rules.openRecord (rules.shared (now w) (now g)) (now a) start) calls) × AllWithin (directOpen (now w) (now g) (now a) start) given
-demand3 w g a start o made accepted calls given follow =
-    demand3-trace (now w) (now g) (now a) start (recordOf (o .chain)) opened calls given (trace follow)
-  where
-    opened : rules.openAnswer (now w) (now g) (now a) start ≡ Judged.given (recordOf (o .chain))
-    opened = sym (made .learnt .0) ∙ ap (λ (x : Opening). openingBy x (recordOf (o .chain))) accepted
+-- calls of the code are a trace of the definitions
+trace : {c : Chain} {list : List Made} {given : List Event} → CallsMade c list given → Trace (recordOf c) list given
+trace CallsMade.done = Trace.done
+trace (CallsMade.quarter m rest) = Trace.next (call-met _ _ _ _ (m .learnt .0) (m .learnt .1)) (trace rest)
+trace (CallsMade.close m rest) = Trace.next (call-met _ _ _ _ (m .learnt .0) (m .learnt .1)) (trace rest)
+trace (CallsMade.year {c = c} {d = d} {q₁ = q₁} {q₂ = q₂} {q₃ = q₃} {p = p} {buffer = buffer} {r = r} {fs = fs} m rest) =
+    let calls = fourCalls (now q₁) (now q₂) (now q₃) (now p) in
+    let told : yearWith r d fs ≡ yearOf (recordOf c) calls (now buffer) = rw (← (m .holds), ← (m .leaves), ← (m .fills)) (m .learnt) in
+    Trace.next (year-met (recordOf c) (now q₁) (now q₂) (now q₃) (now p) (now buffer) (yearWith r d fs) told) (trace rest)
+
+-- an opening that the code accepts is the definitions', with or without an outside share
+opened : {p : Panel} {start : ℕ} {o : Opened} → PanelOpened p start o → o .answer ≡ Opening.Accepted → panelAnswer p start ≡ Judged.given (recordOf (o .chain))
+unfolding rules.openAnswer panelAnswer
+opened {o = o} (PanelOpened.without made) accepted = sym (made .learnt .0) ∙ ap (λ (x : Opening). openingBy x (recordOf (o .chain))) accepted
+opened {o = o} (PanelOpened.outside made) accepted = sym (made .learnt .0) ∙ ap (λ (x : Opening). openingBy x (recordOf (o .chain))) accepted
+
+-- The theorem: p and start are what the open was handed, o is what it handed back.
+pub demand3 : (p : Panel) (start : ℕ) (o : Opened) → PanelOpened p start o → o .answer ≡ Opening.Accepted →
+    (list : List Made) (given : List Event) → CallsMade (o .chain) list given →
+    (given ≡ events (panelRecord p start) list) × AllWithin (directOpen p start) given
+demand3 p start o made accepted list given follow =
+    demand3-trace p start (recordOf (o .chain)) (opened made accepted) list given (trace follow)

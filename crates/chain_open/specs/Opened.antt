@@ -5,6 +5,7 @@ use Rattle.refusals.specs.Number.{numberOf}
 use Rattle.refusals.specs.declared.Refusal.{Refusal}
 use Rattle.rules.specs.Refusals.{Judged, judged, stays}
 use Rattle.rules.specs.Chain.{Chain, shared, openWeightRefusal, openRefusal, openRecord}
+use Rattle.rules.specs.Panel.{Panel, panelRefusal, panelRecord}
 use Rattle.chain_record.specs.Record.{emptyRecord}
 use Rattle.chain.specs.Record.{recordOf, chainFrom}
 use Rattle.chain_open.specs.declared.Opening.{Opening}
@@ -33,3 +34,7 @@ weighedRecord marks us rs start = stays (openWeightRefusal marks us rs) emptyRec
 -- the record that is handed back beside the answer of a whole open
 unfoldable pub openedRecord : List ℕ → List ℕ → List ℕ → ℕ → Chain
 openedRecord ws gs rs start = stays (openRefusal ws gs rs start) emptyRecord (openRecord (shared ws gs) rs start)
+
+-- and with or without an outside share
+unfoldable pub openedPanel : Panel → ℕ → Chain
+openedPanel p start = stays (panelRefusal p start) emptyRecord (panelRecord p start)

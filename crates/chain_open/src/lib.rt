@@ -1,4 +1,5 @@
-// Document 01, "Chain record": the opening of a chain record from base weights W, shares g, updating relatives a and a start index.
+// Document 01, "Chain record": the opening of a chain record from base weights W, shares g, updating relatives a and a start index; and document 02's [7],
+// the opening that also brings an outside share.
 use chain::Chain;
 use limits::MOST_PANEL;
 use refusals::Refusal;
@@ -8,9 +9,10 @@ ghost use Prim.Native.Nat.{_≤_};
 ghost use lib.ListN.{length};
 ghost use Rattle.rules.specs.Limits.{mostPanel};
 ghost use Rattle.rules.specs.Chain.{openAnswer};
+ghost use Rattle.rules.specs.Panel.{withDomain, panelAnswer};
 ghost use Rattle.chain.specs.Record.{recordOf};
 ghost use Rattle.chain_open_weights.specs.Weighable.{Weighable};
-ghost use Rattle.chain_open.specs.Opened.{openingOf, openedRecord, weighedAnswer, weighedRecord, refusedOpening};
+ghost use Rattle.chain_open.specs.Opened.{openingOf, openedRecord, openedPanel, weighedAnswer, weighedRecord, refusedOpening};
 
 pub enum Opening {
     Accepted,
@@ -66,6 +68,30 @@ pub fn open(w: &[u64], g: &[u32], a: &[u32], start: u64) -> Opened
             let mut u = [0u64; MOST_PANEL];
             chain_open_weights::share_into(w, g, &mut u[..n]);
             open_from(g, &u[..n], a, start)
+        }
+    }
+}
+
+// The opening with an outside share. A mark that is not 0 says that the unit was sampled.
+pub fn open_outside(
+    w: &[u64],
+    g: &[u32],
+    a: &[u32],
+    start: u64,
+    marks: &[u8],
+    domain: u32,
+) -> Opened
+    ensures { λ r. ⌜ openingOf r ≡ panelAnswer (withDomain domain (now (marks .entry)) (now (w .entry)) (now (g .entry)) (now (a .entry))) start ⌝ }
+    ensures { λ r. ⌜ recordOf (r .chain) ≡ openedPanel (withDomain domain (now (marks .entry)) (now (w .entry)) (now (g .entry)) (now (a .entry))) start ⌝ }
+{
+    let input = chain_share::judge(w, g, a, start, marks, domain);
+    match input {
+        Verdict::Refused(why) => refused(why),
+        Verdict::Accepted => {
+            let n = w.len();
+            let mut shared = [0u64; MOST_PANEL];
+            chain_share::share_into(w, g, marks, domain, &mut shared[..n]);
+            open_from(g, &shared[..n], a, start)
         }
     }
 }

@@ -46,6 +46,9 @@ pub const HIGHEST_INDEX: u64 = 10_000_000_000;
 
 pub const MOST_CLOSES: u64 = 40;
 
+// Figures of a year.
+pub const YEAR_PLACES: usize = 4;
+
 // ---- total
 pub const MOST_SECTORS: usize = 64;
 

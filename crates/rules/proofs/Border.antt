@@ -9,8 +9,9 @@ use borrow.Author.Tests.{ltb-true, leb-true}
 use Rattle.rules.specs.Limits.{shareScale, relativeScale}
 use Rattle.rules.specs.Lists.{sum, products, scaled}
 use Rattle.rules.specs.Chain.{Chain, Call, after}
-use Rattle.rules.specs.Events.{Event, events}
-use Rattle.rules.specs.Direct.{Direct, exactOpen, exactMoved, directOpen, numerator, denominator, directAfter, allowed, Within, AllWithin}
+use Rattle.rules.specs.Panel.{plain}
+use Rattle.rules.specs.Events.{Event, singles}
+use Rattle.rules.specs.Direct.{Direct, exactOpen, panelExact, exactMoved, directOpen, numerator, denominator, directAfter, allowed, Within, AllWithin}
 use Rattle.rules.proofs.Tests.{never}
 
 -- with D = 10,000,000 a figure may be off by 22 for two floors, by 33 for three
@@ -52,18 +53,18 @@ abbrev up : ℕ
 up = relativeScale + 1
 
 abbrev unrounded : Direct
-unrounded = directAfter (directOpen (1000001 ∷ []) (9999 ∷ []) (up ∷ []) 1000000000) (Call.close (up ∷ []))
+unrounded = directAfter (directOpen (plain (1000001 ∷ []) (9999 ∷ []) (up ∷ [])) 1000000000) (Call.close (up ∷ []))
 
 abbrev ones : List ℕ
 ones = relativeScale ∷ []
 
 pub moved-exactly : numerator unrounded ones * relativeScale ≡ 1000000000 * up * denominator unrounded ones
-unfolding directOpen exactOpen exactMoved numerator denominator sum products scaled
+unfolding directOpen panelExact exactOpen exactMoved numerator denominator sum products scaled
 moved-exactly = refl
 
 -- D's start index is a fraction: with 7 over 2, and a price that stands still, D is 3.5
 abbrev halved : Direct
-halved = record { top = 7; bottom = 2; exact = exactOpen (5 ∷ []) 1 ones; m = 1 }
+halved = record { top = 7; bottom = 2; exact = exactOpen (5 ∷ []) 1 ones; m = 1; extra = 1 }
 
 pub start-divided : 2 * numerator halved ones ≡ 7 * denominator halved ones
 unfolding exactOpen exactMoved numerator denominator sum products
@@ -72,10 +73,10 @@ start-divided = refl
 -- ---- over a list of events
 -- one unit whose price stands still, so that D is the start index, 10^9: a call may be off by 2,200 before the first close, by 3,300 after it
 abbrev still : Direct
-still = directOpen (1000000 ∷ []) (shareScale ∷ []) ones 1000000000
+still = directOpen (plain (1000000 ∷ []) (shareScale ∷ []) ones) 1000000000
 
 pub list-within : AllWithin still (Event.answered (Call.close ones) 1000002200 ∷ Event.answered (Call.quarter ones) 1000003300 ∷ [])
-unfolding directOpen exactOpen exactMoved numerator denominator sum products
+unfolding directOpen panelExact exactOpen exactMoved numerator denominator sum products
 list-within =
     let first : Within 1000002200 (numerator still ones) (denominator still ones) (allowed still) =
     record { defined = ltb-true _ _ refl; notAbove = leb-true _ _ refl; notBelow = leb-true _ _ refl } in
@@ -85,11 +86,11 @@ list-within =
     (first, (second, tt))
 
 pub first-outside : (rest : List Event) → AllWithin still (Event.answered (Call.close ones) 1000002201 ∷ rest) → ⊥
-unfolding directOpen exactOpen exactMoved numerator denominator sum products
+unfolding directOpen panelExact exactOpen exactMoved numerator denominator sum products
 first-outside rest all = never _ _ refl (all .0 .notAbove)
 
 pub second-outside : (f : ℕ) → AllWithin still (Event.answered (Call.close ones) f ∷ Event.answered (Call.quarter ones) 1000003301 ∷ []) → ⊥
-unfolding directOpen exactOpen exactMoved numerator denominator sum products
+unfolding directOpen panelExact exactOpen exactMoved numerator denominator sum products
 second-outside f all = never _ _ refl (all .1 .0 .notAbove)
 
 -- "A refused call has no D and changes nothing": the call after it is judged by the same weights and the same m
@@ -100,12 +101,12 @@ refused-passed d n f qs all = all .0
 -- a close "takes m as it stands", and the call after it the moved weights and one more
 pub close-counted : (d : Direct) (f h : ℕ) (ps qs : List ℕ) →
     AllWithin d (Event.answered (Call.close ps) f ∷ Event.answered (Call.quarter qs) h ∷ []) →
-    Within f (numerator d ps) (denominator d ps) (d .m + 1)
-    × Within h (numerator (directAfter d (Call.close ps)) qs) (denominator (directAfter d (Call.close ps)) qs) (suc (d .m) + 1)
+    Within f (numerator d ps) (denominator d ps) (d .m + d .extra)
+    × Within h (numerator (directAfter d (Call.close ps)) qs) (denominator (directAfter d (Call.close ps)) qs) (suc (d .m) + d .extra)
 close-counted d f h ps qs all = (all .0, all .1 .0)
 
 -- there is an event for each call
-pub every-call : (r : Chain) (calls : List Call) → length (events r calls) ≡ length calls
-unfolding events
+pub every-call : (r : Chain) (calls : List Call) → length (singles r calls) ≡ length calls
+unfolding singles
 every-call r [] = refl
 every-call r (call ∷ calls) = ap suc (every-call (after r call) calls)

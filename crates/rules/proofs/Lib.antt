@@ -2,6 +2,9 @@ pub mod Tests
 pub mod Refusals
 pub mod Lists
 pub mod Chains
+pub mod Panels
+pub mod PanelCases
 pub mod Reference
 pub mod Border
+pub mod Years
 pub mod Leavers

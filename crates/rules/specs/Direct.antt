@@ -1,10 +1,11 @@
--- Document 01, demand 3: the exact direct index D, "reckoned beside them from the arguments of the open, the relatives of the calls and which calls
+-- Document 01, demand 3, with document 02's [7]: the exact direct index D, "reckoned beside them from the arguments of the open, the relatives of the calls and which calls
 -- document 01 refuses, never from the chain record".
-use Prim.Native.Nat.{ℕ, suc, _+_, _*_, _≤_, _<_}
+use Prim.Native.Nat.{ℕ, zero, suc, _+_, _*_, _≤_, _<_}
 use mathlib.Core.List.{List, [], _∷_}
 use Rattle.rules.specs.Limits.{shareScale, relativeScale, boundScale, boundFactor}
 use Rattle.rules.specs.Lists.{sum, products}
 use Rattle.rules.specs.Chain.{Call, relatives}
+use Rattle.rules.specs.Panel.{Outside, Panel, sampledSize, sampledShares, outsideWhole, eachUnit}
 use Rattle.rules.specs.Events.{Event}
 
 -- ---- a panel's exact weights
@@ -25,6 +26,33 @@ exactOpen us scale rs =
       totalScale = scale * relativeScale;
     }
 
+-- [7]: "the exact opening weight of a sampled unit is n × X × G × g × a / T over the same scale as take-all". T is the common denominator; with no
+-- sampled unit there is none, and it counts as 1.
+abbrev pub divisorBy : ℕ → ℕ → ℕ
+divisorBy zero t = 1
+divisorBy (suc n) t = t
+
+abbrev pub divisor : List ℕ → List ℕ → List ℕ → ℕ
+divisor ms ws gs = divisorBy (sampledSize ms ws) (sampledShares ms gs)
+
+-- W × g and n × X × G × g / T, each times T
+abbrev pub exactUnit : ℕ → ℕ → ℕ → ℕ → ℕ → ℕ
+exactUnit whole t zero w g = w * g * t
+exactUnit whole t (suc mark) w g = whole * g
+
+-- a panel's u without their floors …
+abbrev pub exactShared : Outside → List ℕ → List ℕ → List ℕ
+exactShared Outside.none ws gs = products ws gs
+exactShared (Outside.share domain ms) ws gs = eachUnit (exactUnit (outsideWhole domain ms ws) (divisor ms ws gs)) ms ws gs
+
+-- … over 10,000, and over 10,000 × T
+abbrev pub exactScale : Outside → List ℕ → List ℕ → ℕ
+exactScale Outside.none ws gs = shareScale
+exactScale (Outside.share domain ms) ws gs = shareScale * divisor ms ws gs
+
+unfoldable pub panelExact : Panel → Exact
+panelExact p = exactOpen (exactShared (p .outside) (p .base) (p .shares)) (exactScale (p .outside) (p .base) (p .shares)) (p .updates)
+
 -- "each e becomes e × p / 100,000, without rounding" ([5])
 unfoldable pub exactMoved : Exact → List ℕ → Exact
 exactMoved x ps =
@@ -43,16 +71,26 @@ abbrev pub meanBottom : Exact → ℕ
 meanBottom x = x .scale * x .total
 
 -- ---- D
--- D's start index is `top` over `bottom`.
+-- D's start index is `top` over `bottom`; `extra` is what the bound adds to m.
 pub record Direct : Type 0 where
   pub top : ℕ
   pub bottom : ℕ
   pub exact : Exact
   pub m : ℕ
+  pub extra : ℕ
+
+-- [7]: "the bound has m + 2 where it had m + 1", for an opening with a sampled unit: with none it is the opening without G
+abbrev pub extraFor : ℕ → ℕ
+extraFor zero = 1
+extraFor (suc n) = 2
+
+abbrev pub extraBy : Outside → List ℕ → ℕ
+extraBy Outside.none ws = 1
+extraBy (Outside.share domain ms) ws = extraFor (sampledSize ms ws)
 
 -- "the start index given to the open"; the exact opening weight is W × g × a / 1,000,000,000 ([5]); "m is 1"
-unfoldable pub directOpen : List ℕ → List ℕ → List ℕ → ℕ → Direct
-directOpen ws gs rs start = record { top = start; bottom = 1; exact = exactOpen (products ws gs) shareScale rs; m = 1 }
+unfoldable pub directOpen : Panel → ℕ → Direct
+directOpen p start = record { top = start; bottom = 1; exact = panelExact p; m = 1; extra = extraBy (p .outside) (p .base) }
 
 -- "D is the start index given to the open × the sum of (e × p / 100,000) / E", as numerator and denominator
 unfoldable pub numerator : Direct → List ℕ → ℕ
@@ -64,14 +102,14 @@ denominator d ps = d .bottom * meanBottom (exactMoved (d .exact) ps)
 -- Quarter: "Nothing changes." Close: "each e becomes e × p / 100,000, … and m grows by one."
 abbrev pub directAfter : Direct → Call → Direct
 directAfter d (Call.quarter ps) = d
-directAfter d (Call.close ps) = record { top = d .top; bottom = d .bottom; exact = exactMoved (d .exact) ps; m = suc (d .m) }
+directAfter d (Call.close ps) = record { top = d .top; bottom = d .bottom; exact = exactMoved (d .exact) ps; m = suc (d .m); extra = d .extra }
 
 -- ---- the bound
--- m + 1, which is the number of floors that a weight has had when the figure is reckoned
+-- m + 1, or m + 2 with an outside share: the number of floors that a weight has had when the figure is reckoned
 abbrev pub allowed : Direct → ℕ
-allowed d = d .m + 1
+allowed d = d .m + d .extra
 
--- 10,000,000 × |F − D| ≤ 11 × (m + 1) × D, both sides multiplied by D's denominator; `floors` stands for m + 1
+-- 10,000,000 × |F − D| ≤ 11 × (m + 1) × D, both sides multiplied by D's denominator; `floors` stands for m + 1 or m + 2
 pub record Within (figure num den floors : ℕ) : Type 0 where
   pub defined : 0 < den
   pub notAbove : boundScale * (figure * den) ≤ boundScale * num + boundFactor * floors * num

@@ -8,6 +8,8 @@ pub mod TakeAll
 pub mod Draw
 pub mod Rotation
 pub mod Chain
+pub mod Panel
+pub mod Year
 pub mod Renewal
 pub mod Events
 pub mod Direct

@@ -69,6 +69,10 @@ highestIndex = 10000000000
 abbrev pub mostCloses : ℕ
 mostCloses = 40
 
+-- figures of a year: three quarters and the close (document 02, [6], refusal 28)
+abbrev pub yearPlaces : ℕ
+yearPlaces = 4
+
 -- ---- the bound of demand 3: 10,000,000 × |F − D| ≤ 11 × (m + 1) × D
 abbrev pub boundScale : ℕ
 boundScale = 10000000
