@@ -151,7 +151,8 @@ struct vougecress_figure vougecress_close(uint64_t *record, size_t record_count,
 
 /*
  * Renews the panel of a chain: opens new weights from a record, with lists as an open has them, of a length of their own. The record's
- * index is the start index, its links go onward, and its closes begin at 0; of its weights nothing goes on.
+ * index is the start index, its links go onward, and its closes begin at 0; of its weights nothing goes on. An updating relative leads from the
+ * reference year to the renewal, and the relatives of the calls after it are measured against the renewal as against an opening.
  * Writes the first 104 places of `record`. Answers 0, or 19 (the record breaks a limit, or is shorter than 104), 9, 10, 11, 13, 21 or 22.
  * Never 24: at forty links a renewal is accepted, and each quarter or close after it is refused by 24.
  */
@@ -159,6 +160,18 @@ uint32_t vougecress_renew(const uint64_t *weights, size_t weights_count,
                           const uint32_t *shares, size_t shares_count,
                           const uint32_t *relatives, size_t relatives_count,
                           uint64_t *record, size_t record_count);
+
+/*
+ * The same with an outside share: the domain share G in ten-thousandths, and for each unit whether it was sampled, 0 for a take-all unit and
+ * any other number for a sampled one (the marks of vougecress_take_all say the contrary).
+ * Answers 0, or 19, 9 (also where there is not one mark for each unit), 10, 11, 13, 29, 21 or 22.
+ */
+uint32_t vougecress_renew_outside(const uint64_t *weights, size_t weights_count,
+                                  const uint32_t *shares, size_t shares_count,
+                                  const uint32_t *relatives, size_t relatives_count,
+                                  const uint8_t *sampled, size_t sampled_count,
+                                  uint32_t domain,
+                                  uint64_t *record, size_t record_count);
 
 /* ---- Frame ("Frame and weights", "Draw")
  *

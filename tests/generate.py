@@ -7,10 +7,11 @@ See `cases` for what a case is; each generator's first line says which refusals 
 """
 
 from cases import GENERATORS, U32, U64, Case, again
-from cases.chains import chain_cases, close_cases, open_cases, panels_cases, quarter_cases, renew_cases, total_cases
+from cases.chains import chain_cases, close_cases, open_cases, quarter_cases, total_cases
 from cases.frames import draw_cases, large_draw_cases, near_draw_cases, rotate_cases, take_all_cases
 from cases.loads import load_cases
 from cases.outsides import outside_cases, outside_chain_cases
+from cases.panels import panels_cases, renew_cases, renew_outside_cases
 from cases.streams import LISTING, many_draw_cases, reader_cases, stream_cases, word_cases
 from cases.samples import sample_cases
 from cases.registers import register_cases
@@ -41,6 +42,7 @@ __all__ = [
     "reader_cases",
     "register_cases",
     "renew_cases",
+    "renew_outside_cases",
     "rotate_cases",
     "sample_cases",
     "sheet_cases",

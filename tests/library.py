@@ -12,7 +12,8 @@ from functools import cache
 from pathlib import Path
 
 from independent import Refused
-from independent.chain import Figure, Record, Renewed, Total
+from independent.chain import Figure, Record, Stopped, Total, Year
+from independent.panels import Renewed
 from independent.frame import Drawn, Rotated, Taken
 from independent.sample import Shared
 from independent.register import BadLine
@@ -58,6 +59,7 @@ SIGNATURES = {
     "vougecress_open": (c_uint32, ("u64s", "u32s", "u32s", c_uint64, "u64s")),
     "vougecress_open_outside": (c_uint32, ("u64s", "u32s", "u32s", c_uint64, "u8s", c_uint32, "u64s")),
     "vougecress_renew": (c_uint32, ("u64s", "u32s", "u32s", "u64s")),
+    "vougecress_renew_outside": (c_uint32, ("u64s", "u32s", "u32s", "u8s", c_uint32, "u64s")),
     "vougecress_quarter": (FigureAnswer, ("u64s", "u32s")),
     "vougecress_close": (FigureAnswer, ("u64s", "u32s")),
     "vougecress_year": (YearAnswer, ("u64s", "u32s", "u32s", "u32s", "u32s", "u64s")),
@@ -176,10 +178,15 @@ def open_outside(W, g, a, start, marks, G):
     return Refused(number) if after == before else ("a refused open wrote its record", number)
 
 
-def renew(record, W, g, a):
+def renew(record, W, g, a, marks=None, G=None):
     """The record of the new panel, or the record as it was and a refusal."""
-    number, (*inputs, after) = call("vougecress_renew", W, g, a, as_list(record))
-    unchanged(inputs, (W, g, a))
+    before, lists = as_list(record), [W, g, a]
+    if marks is None:
+        number, (*inputs, after) = call("vougecress_renew", *lists, before)
+    else:
+        lists.append(marks)
+        number, (*inputs, after) = call("vougecress_renew_outside", *lists, G, before)
+    unchanged(inputs, lists)
     return as_record(after), Refused(number) if number else Renewed()
 
 

@@ -105,7 +105,7 @@ NEAREST = {
     "Year": ("year", "events"),
     "Renewal": ("renewal",),
     "Events": ("events",),
-    "Direct": ("direct", "outside"),
+    "Direct": ("direct", "outside", "course"),
     "Total": ("total",),
     "Stream": ("reading",),
     "Word": ("word",),

@@ -11,13 +11,10 @@ from itertools import islice
 
 import generate
 from independent import Refused
-<<<<<<< HEAD
-from independent.chain import Direct, Figure, Record, Renewed, Total, close, open_chain, quarter, renew, total, within_bound
-=======
 from cases.outsides import WORKED as OUTSIDE_WORKED
 from independent.chain import Direct, Figure, Record, Total, close, open_chain, quarter, total, within_bound, year
+from independent.panels import Course, Renewed, renew
 from independent.outside import OutsideDirect, inner_floor, open_outside, shared_weights
->>>>>>> mixc
 from independent.frame import Drawn, Rotated, Taken, draw, rotate, take_all, take_all_entry
 from independent.stream import COMMANDS, END, Job, front_word, read_command, run, step
 from independent.sample import share
@@ -70,11 +67,20 @@ def try_close(data):
     return answer, record == record_of(data)
 
 
-<<<<<<< HEAD
+def opening_in(data):
+    """What a renewal brings beside its record."""
+    return {name: data[name] for name in ("W", "g", "a", "marks", "G") if name in data}
+
+
+def renewal_of(data):
+    return renew(record_of(data), **opening_in(data))
+
+
 def try_renew(data):
-    record, answer = renew(record_of(data), data["W"], data["g"], data["a"])
+    record, answer = renewal_of(data)
     return answer, record == record_of(data)
-=======
+
+
 YEAR_LISTS = ("first", "second", "third", "last", "figures")
 
 
@@ -86,7 +92,6 @@ def year_of(data):
 def try_year(data):
     record, figures, answer = year_of(data)
     return answer, (record, figures[answer.count :]) == (record_of(data), data["figures"][answer.count :])
->>>>>>> mixc
 
 
 def try_total(data):
@@ -135,11 +140,9 @@ ENTRIES = {
     "outside_cases": (try_outside, {9, 10, 11, 12, 13, 21, 22, 29}, 300, 20_000),
     "quarter_cases": (try_quarter, {9, 13, 19, 23, 24}, 300, 20_000),
     "close_cases": (try_close, {9, 13, 19, 21, 22, 23, 24}, 300, 20_000),
-<<<<<<< HEAD
     "renew_cases": (try_renew, {9, 10, 11, 13, 19, 21, 22}, 300, 20_000),
-=======
+    "renew_outside_cases": (try_renew, {9, 10, 11, 13, 19, 21, 22, 29}, 200, 10_000),
     "year_cases": (try_year, {9, 13, 19, 21, 22, 23, 24, 28}, 200, 10_000),
->>>>>>> mixc
     "total_cases": (try_total, {14}, 300, 20_000),
     "sample_cases": (try_share, {31}, 300, 20_000),
     "reader_cases": (try_read, {15, 16, 17}, 300, 20_000),
@@ -201,26 +204,16 @@ def test_generators_repeat(t):
         t.check([case.data for case in first] != [case.data for case in other], f"{name}: seeds differ")
 
 
-<<<<<<< HEAD
-WIDE = {"turnovers", "out_weights", "W", "weights", "index", "closes", "links", "indices", "count", "interviews", "strengths", "minima", "amounts"}
-WIDE_START = ("open_cases", "chain_cases", "panels_cases", "load_cases")
-=======
-WIDE = {"turnovers", "out_weights", "W", "weights", "index", "indices", "count", "interviews", "strengths", "minima", "amounts", "figures"}
-WIDE_START = ("open_cases", "outside_cases", "chain_cases", "outside_chain_cases", "year_chain_cases", "load_cases")
->>>>>>> mixc
+WIDE = {"turnovers", "out_weights", "W", "weights", "index", "closes", "links", "indices", "count", "interviews", "strengths", "minima", "amounts", "figures"}
+WIDE_START = ("open_cases", "outside_cases", "chain_cases", "outside_chain_cases", "year_chain_cases", "panels_cases", "load_cases")
 
 
 def widest(data, name):
     """The largest number of an argument that must fit a machine word."""
     value = data[name]
     if name == "calls":
-<<<<<<< HEAD
-        relatives = [lists[-1] for _, *lists in value]
-        return max((relative for p in relatives for relative in p), default=0)
-=======
-        lists = [q for kind, p in value for q in (p if kind == "year" else [p])]
+        lists = [q for kind, p in value for q in (p if kind == "year" else [p["a"]] if kind == "renew" else [p])]
         return max((p for relatives in lists for p in relatives), default=0)
->>>>>>> mixc
     if isinstance(value, (list, bytes)):
         return max(value, default=0)
     return value
@@ -485,18 +478,18 @@ def test_call_laws(t):
             law_of_calls(t, case)
 
 
-<<<<<<< HEAD
 def test_renewal_laws(t):
-    """The opening at the record's C, but for its links; a record that a renewal leaves is never 19 and is never refused another."""
-    for case in generate.renew_cases(t.seed, t.count(300, 10_000)):
-        record, lists = record_of(case.data), [case.data[name] for name in ("W", "g", "a")]
-        after, answer = renew(record, *lists)
-        if not isinstance(answer, Renewed):
-            continue
-        opened = open_chain(*lists, record.index)
-        t.check((after.units, after.weights, after.index, after.closes) == (opened.units, opened.weights, record.index, 0), "the opened record", case)
-        t.check(after.links == record.links, "the links go onward", case)
-        t.check(renew(after, *lists) == (after, Renewed()), "once more", case)
+    """The opening at the record's C, but for its links; the record that a renewal leaves can be renewed again."""
+    for generator in (generate.renew_cases, generate.renew_outside_cases):
+        for case in generator(t.seed, t.count(300, 10_000)):
+            record, opening = record_of(case.data), opening_in(case.data)
+            after, answer = renew(record, **opening)
+            if not isinstance(answer, Renewed):
+                continue
+            new = (open_outside if "G" in opening else open_chain)(start=record.index, **opening)
+            t.check((after.units, after.weights, after.index, after.closes) == (new.units, new.weights, record.index, 0), "the opened record", case)
+            t.check(after.links == record.links, "the links go onward", case)
+            t.check(renew(after, **opening) == (after, Renewed()), "once more", case)
 
 
 def test_links(t):
@@ -505,11 +498,12 @@ def test_links(t):
     record, answer = close(record, [110_000])
     t.check((answer, record.closes, record.links) == (Figure(1_100_000_000), 1, 40), "the fortieth link", record)
     t.check(close(record, [100_000])[1] == Refused(24), "the next close is 24", record)
-    record, answer = renew(Record(1, [2_000_000] + [0] * 99, 10**9, 40, 40), [1_000_000, 5_000_000], [10_000] * 2, [100_000] * 2)
+    record, answer = renew(Record(1, [2_000_000] + [0] * 99, 10**9, 40, 40), W=[1_000_000, 5_000_000], g=[10_000] * 2, a=[100_000] * 2)
     t.check((answer, record.units, record.closes, record.links) == (Renewed(), 2, 0, 40), "a renewal at forty links", record)
     t.check(quarter(record, [100_000] * 2)[1] == Refused(24), "then a quarter is 24", record)
     t.check(quarter(record, [1] * 2)[1] == Refused(13), "and 13 before it", record)
-=======
+
+
 # A year
 
 
@@ -538,7 +532,6 @@ def test_year_laws(t):
         counts.add((refusal_in(answer), answer.count))
     due = {(28, 0), (19, 0), (24, 0), (21, 3), (22, 3), (0, 4)} | {(number, count) for number in (9, 13, 23) for count in range(4)}
     t.check(counts == due, "each refusal at each place that has it", counts ^ due)
->>>>>>> mixc
 
 
 # Demand 3
@@ -547,8 +540,9 @@ def test_year_laws(t):
 def single_calls(record, kind, p):
     """The calls that this one came to, each with the record after it and its answer: a year is its calls up to a refused one."""
     made = [("quarter", q) for q in p[:3]] + [("close", p[3])] if kind == "year" else [(kind, p)]
+    entries = {"close": close, "quarter": quarter, "renew": lambda held, opening: renew(held, **opening)}
     for name, relatives in made:
-        record, answer = (close if name == "close" else quarter)(record, relatives)
+        record, answer = entries[name](record, relatives)
         yield name, relatives, record, answer
         if isinstance(answer, Refused):
             return
@@ -557,9 +551,7 @@ def single_calls(record, kind, p):
 def opened_by(data):
     """The record of a chain's opening, with or without an outside share, and the exact side beside it."""
     opening = {name: value for name, value in data.items() if name != "calls"}
-    if "G" in data:
-        return open_outside(**opening), OutsideDirect(**opening)
-    return open_chain(**opening), Direct(**opening)
+    return (open_outside if "G" in data else open_chain)(**opening), Course(**opening)
 
 
 def follow(t, case):
@@ -567,35 +559,20 @@ def follow(t, case):
     data = case.data
     record, direct = opened_by(data)
     t.check(isinstance(record, Record), "the opening is accepted", case)
-<<<<<<< HEAD
-    direct = Direct(*opening)
-    for kind, *lists in data["calls"]:
-        before = record
-        record, answer = {"close": close, "quarter": quarter, "renew": renew}[kind](record, *lists)
-        if isinstance(answer, Refused):
-            t.check(record == before, "a refused call hands the record back", case)
-            yield answer, None, None
-            continue
-        if kind == "renew":
-            direct.renewed(*lists)
-            continue
-        yield answer, direct.D(*lists), direct.allowed()
-        if kind == "close":
-            direct.closed(*lists)
-            t.check(record.links == direct.m - 1, "m counts the accepted closes of all panels", case)
-=======
     for kind, p in data["calls"]:
         for name, relatives, after, answer in single_calls(record, kind, p):
             if isinstance(answer, Refused):
                 t.check(after == record, "a refused call hands the record back", case)
                 yield answer, None, None
                 continue
-            yield answer, direct.D(relatives), direct.allowed()
             record = after
+            if name == "renew":
+                direct.renewed(relatives)
+                continue
+            yield answer, direct.D(relatives), direct.allowed()
             if name == "close":
                 direct.closed(relatives)
-                t.check(record.closes == direct.m - 1, "m counts the accepted closes", case)
->>>>>>> mixc
+                t.check(record.links == direct.m - 1, "m counts the accepted closes of all panels", case)
 
 
 def test_demand_3(t):
@@ -613,11 +590,6 @@ def test_demand_3(t):
     t.check(figures > 20_000, "many figures", figures)
 
 
-<<<<<<< HEAD
-def test_demand_3_through_panels(t):
-    refusals, most, figures = set(), 0, 0
-    for case in generate.panels_cases(t.seed, t.count(1_500, 20_000)):
-=======
 def test_demand_3_with_years(t):
     """A list with years meets the bound as its single calls do."""
     stopped, figures = 0, 0
@@ -635,13 +607,27 @@ def test_demand_3_outside(t):
     """The same from openings with an outside share, where m + 2 floors are allowed."""
     refusals, steps, figures = set(), set(), 0
     for case in generate.outside_chain_cases(t.seed, t.count(1_000, 20_000)):
->>>>>>> mixc
         for answer, D, allowed in follow(t, case):
             if D is None:
                 refusals.add(answer.number)
                 continue
             t.check(within_bound(answer.F, D, allowed), f"F = {answer.F}, D = {D}, allowed = {allowed}", case)
-<<<<<<< HEAD
+            steps.add(allowed)
+            figures += 1
+    t.check(refusals >= {9, 13, 23, 24}, "the chains meet refusals of a call", refusals)
+    t.check(steps == set(range(3, 43)), "figures at each count of closes", steps)
+    t.check(figures > 5_000, "many figures", figures)
+
+
+def test_demand_3_through_panels(t):
+    """The same through several panels, with and without an outside share, and years among the calls."""
+    refusals, most, figures = set(), 0, 0
+    for case in generate.panels_cases(t.seed, t.count(1_000, 20_000)):
+        for answer, D, allowed in follow(t, case):
+            if D is None:
+                refusals.add(answer.number)
+                continue
+            t.check(within_bound(answer.F, D, allowed), f"F = {answer.F}, D = {D}, allowed = {allowed}", case)
             most = max(most, allowed)
             figures += 1
     t.check(refusals == {9, 13, 21, 22, 23, 24}, "the lists meet each refusal of a call or renewal", refusals)
@@ -659,13 +645,6 @@ def test_worked_panels(t):
     t.check((F, math.floor(100 * D), allowed) == (1_000_023_600, 100_007_199_571, 80), "F, D and the multiplier", (F, float(D), allowed))
     t.check(within_bound(F, D, 80) and not within_bound(F, D, 41), "m + 1 alone does not cover it", (F, float(D)))
     t.check(ends["a panel without a close"] == (1_260_000_000, 1_260_000_000, 4), "the multiplier 4", ends)
-=======
-            steps.add(allowed)
-            figures += 1
-    t.check(refusals >= {9, 13, 23, 24}, "the chains meet refusals of a call", refusals)
-    t.check(steps == set(range(3, 43)), "figures at each count of closes", steps)
-    t.check(figures > 5_000, "many figures", figures)
->>>>>>> mixc
 
 
 # Both floors of the second weight lose nearly a millionth, and it moves apart from

@@ -5,13 +5,10 @@ from collections import Counter
 import generate
 import library
 from cases.samples import WORKED
-<<<<<<< HEAD
-from independent import Refused, chain, frame, load, register, sample, sheet, stream, writing
-from independent.chain import Direct, Figure, Record, Renewed, within_bound
-=======
-from independent import Refused, chain, frame, load, outside, register, sample, sheet, stream, writing
-from independent.chain import Direct, Figure, Record, within_bound
->>>>>>> mixc
+from cases.years import LISTS
+from independent import Refused, chain, frame, load, outside, panels, register, sample, sheet, stream, writing
+from independent.chain import Figure, Record, within_bound
+from independent.panels import Course, Renewed
 
 # Refusals that each entry has; each must be met many times.
 REFUSALS = {
@@ -22,7 +19,9 @@ REFUSALS = {
     "outside_cases": {9, 10, 11, 12, 13, 21, 22, 29},
     "quarter_cases": {9, 13, 19, 23, 24},
     "close_cases": {9, 13, 19, 21, 22, 23, 24},
+    "year_cases": {9, 13, 19, 21, 22, 23, 24, 28},
     "renew_cases": {9, 10, 11, 13, 19, 21, 22},
+    "renew_outside_cases": {9, 10, 11, 13, 19, 21, 22, 29},
     "total_cases": {14},
     "load_cases": {33},
     "word_cases": {17},
@@ -138,15 +137,11 @@ def test_open(t):
     compared(t, "open_cases", 600, 30_000, lambda d: library.open_chain(**d), lambda d: chain.open_chain(**d))
 
 
-<<<<<<< HEAD
-def on_record(call, *lists):
-=======
 def test_open_outside(t):
     compared(t, "outside_cases", 600, 30_000, lambda d: library.open_outside(**d), lambda d: outside.open_outside(**d))
 
 
-def on_record(call):
->>>>>>> mixc
+def on_record(call, *lists):
     def tried(data):
         record = Record(*(data[name] for name in ("units", "weights", "index", "closes", "links")))
         after, answer = call(record, *(data[name] for name in lists))
@@ -163,10 +158,46 @@ def test_close(t):
     compared(t, "close_cases", 600, 30_000, on_record(library.close, "p"), on_record(chain.close, "p"))
 
 
+def on_renewal(renew):
+    def tried(data):
+        record = Record(*(data[name] for name in ("units", "weights", "index", "closes", "links")))
+        after, answer = renew(record, **{name: data[name] for name in ("W", "g", "a", "marks", "G") if name in data})
+        return answer, after
+
+    return tried
+
+
 def test_renew(t):
     """Answer and every place of the lent record."""
-    lists = ("W", "g", "a")
-    compared(t, "renew_cases", 600, 30_000, on_record(library.renew, *lists), on_record(chain.renew, *lists))
+    compared(t, "renew_cases", 600, 30_000, on_renewal(library.renew), on_renewal(panels.renew))
+    compared(t, "renew_outside_cases", 400, 20_000, on_renewal(library.renew), on_renewal(panels.renew))
+
+
+def on_year(year):
+    def tried(data):
+        record = Record(*(data[name] for name in ("units", "weights", "index", "closes", "links")))
+        after, figures, answer = year(record, *(data[name] for name in LISTS), data["figures"])
+        return answer, figures, after
+
+    return tried
+
+
+def test_year(t):
+    compared(t, "year_cases", 400, 20_000, on_year(library.year), on_year(chain.year))
+
+
+def test_year_record_list(t):
+    """A list that is shorter than 104 places is no record: 19, after 28; one place more stays."""
+    full = [1, 10**9, 0, 0, 2 * 10**6] + [0] * 99
+    lists = [[101_000], [102_000], [103_000], [104_000]]
+    for record, room, due in ((full[:-1], 3, 28), (full[:-1], 4, 19), (full, 3, 28)):
+        answer, (after, *_, figures) = library.call("vougecress_year", record, *lists, [7] * room)
+        t.check((answer.refusal, answer.count) == (due, 0), f"a record of {len(record)} places, {room} for figures: {due}")
+        t.check((after, figures) == (record, [7] * room), "nothing is written")
+    answer, (after, *_, figures) = library.call("vougecress_year", full + [5], *lists, [7] * 6)
+    t.check((answer.refusal, answer.count) == (0, 4), "an accepted year")
+    t.check(figures == [1_010_000_000, 1_020_000_000, 1_030_000_000, 1_040_000_000, 7, 7], "its figures")
+    t.check(after[:5] == [1, 1_040_000_000, 1, 1, 2_080_000] and after[-1] == 5, "its record, and a place beyond")
 
 
 def test_total(t):
@@ -187,6 +218,8 @@ def test_record_list(t):
         before = (full + [5])[:room]
         answer, (*_, after) = library.call("vougecress_renew", *lists, before)
         t.check(answer == number and after == before, f"a renewal from a record of {room} places, here by the same record")
+        answer, (*_, after) = library.call("vougecress_renew_outside", *lists, [0], 0, before)
+        t.check(answer == number and after == before, "the same with an outside share that is not read")
     opening = (*lists, 10**9)
     for room, number in ((103, 6), (104, 0), (105, 0)):
         answer, (*_, after) = library.call("vougecress_open", *opening, [8] * room)
@@ -194,10 +227,10 @@ def test_record_list(t):
         t.check(after[104:] == [8] * (room - 104) if number == 0 else after == [8] * room, "open writes 104 places")
     answer, (*_, after) = library.call("vougecress_open", [], [], [], 10**9, [8] * 103)
     t.check(answer == 6, "6 is lower than 9")
-    for room, number in ((102, 6), (103, 0), (104, 0)):
+    for room, number in ((103, 6), (104, 0), (105, 0)):
         answer, (*_, after) = library.call("vougecress_open_outside", *opening, [1], 10_000, [8] * room)
         t.check(answer == number, f"open with an outside share and a record of {room} places")
-        t.check(after[103:] == [8] * (room - 103) if number == 0 else after == [8] * room, "it writes 103 places")
+        t.check(after[104:] == [8] * (room - 104) if number == 0 else after == [8] * room, "it writes 104 places")
 
 
 def test_chains(t):
@@ -212,13 +245,12 @@ def test_chains(t):
     t.check(longest == 40, "some chain reached forty closes", repeat=longest)
 
 
-<<<<<<< HEAD
-def test_panels(t):
-    """The same through several panels."""
-    ends = [follow(t, case) for case in generate.panels_cases(t.seed, t.count(1_000, 10_000))]
-    t.check(sum(figures for figures, _ in ends) > 1_000, "many figures were compared")
-    t.check(max(links for _, links in ends) == 40, "some chain reached forty links")
-=======
+def test_chains_with_years(t):
+    """Chains with years: digit by digit as the single calls, and every figure within the bound."""
+    figures = sum(follow(t, case)[0] for case in generate.year_chain_cases(t.seed, t.count(400, 5_000)))
+    t.check(figures > 1_000, "many figures were compared", repeat=figures)
+
+
 def test_outside_chains(t):
     """The same from openings with an outside share."""
     told = [follow(t, case) for case in generate.outside_chain_cases(t.seed, t.count(500, 10_000))]
@@ -226,13 +258,45 @@ def test_outside_chains(t):
     t.check(max(closes for _, closes in told) == 40, "some chain reached forty closes")
 
 
+def test_panels(t):
+    """The same through several panels, each with or without an outside share."""
+    ends = [follow(t, case) for case in generate.panels_cases(t.seed, t.count(800, 10_000))]
+    t.check(sum(figures for figures, _ in ends) > 1_000, "many figures were compared")
+    t.check(max(links for _, links in ends) == 40, "some chain reached forty links")
+
+
 def openings_of(data):
     """A chain's opening by the library and by the independent computation, and the exact side."""
     arguments = {name: value for name, value in data.items() if name != "calls"}
-    if "G" in data:
-        return library.open_outside(**arguments), outside.open_outside(**arguments), outside.OutsideDirect(**arguments)
-    return library.open_chain(**arguments), chain.open_chain(**arguments), Direct(**arguments)
->>>>>>> mixc
+    ours, theirs = (library.open_outside, outside.open_outside) if "G" in data else (library.open_chain, chain.open_chain)
+    return ours(**arguments), theirs(**arguments), Course(**arguments)
+
+
+def follow_year(t, case, ours, theirs, lists, exact):
+    """A year through the library beside the independent single calls, up to a refused one."""
+    after, buffer, told = library.year(ours, *lists, [7] * 4)
+    made = []
+    for place, p in enumerate(lists):
+        theirs, expected = (chain.close if place == 3 else chain.quarter)(theirs, p)
+        if isinstance(expected, Refused):
+            break
+        made.append(expected.F)
+        t.check(within_bound(buffer[place], exact.D(p), exact.allowed()), "year: the figure is within the bound", repeat=case)
+        if place == 3:
+            exact.closed(p)
+    t.check((buffer, told.count, after) == (made + [7] * (4 - len(made)), len(made), theirs), "year: as its single calls", repeat=case)
+    t.check(not isinstance(expected, Refused) or told == chain.Stopped(expected.number, len(made)), "year: the refusal", repeat=case)
+    return after, theirs, len(made)
+
+
+def follow_renewal(t, case, ours, theirs, opening, exact):
+    """A renewal through the library beside the independent one; both records after it."""
+    ours, told = library.renew(ours, **opening)
+    theirs, expected = panels.renew(theirs, **opening)
+    t.check((told, ours) == (expected, theirs), "chain: a renewal and the record after it", repeat=case)
+    if isinstance(expected, Renewed):
+        exact.renewed(opening)
+    return ours, theirs
 
 
 def follow(t, case):
@@ -242,25 +306,23 @@ def follow(t, case):
     t.check(ours == theirs, "chain: the open", repeat=case)
     if isinstance(theirs, Refused):
         return 0, 0
-<<<<<<< HEAD
-    exact, figures = Direct(*arguments), 0
-    for name, *lists in data["calls"]:
-        ours, told = getattr(library, name)(ours, *lists)
-        theirs, expected = getattr(chain, name)(theirs, *lists)
-=======
     figures = 0
     for name, p in data["calls"]:
+        if name == "year":
+            ours, theirs, made = follow_year(t, case, ours, theirs, p, exact)
+            figures += made
+            continue
+        if name == "renew":
+            ours, theirs = follow_renewal(t, case, ours, theirs, p, exact)
+            continue
         ours, told = getattr(library, name)(ours, p)
         theirs, expected = getattr(chain, name)(theirs, p)
->>>>>>> mixc
         t.check((told, ours) == (expected, theirs), f"chain: a {name} and the record after it", repeat=case)
         if isinstance(expected, Figure):
             figures += 1
-            t.check(within_bound(told.F, exact.D(*lists), exact.allowed()), "chain: the figure is within the bound", repeat=case)
+            t.check(within_bound(told.F, exact.D(p), exact.allowed()), "chain: the figure is within the bound", repeat=case)
             if name == "close":
-                exact.closed(*lists)
-        if isinstance(expected, Renewed):
-            exact.renewed(*lists)
+                exact.closed(p)
     return figures, theirs.links
 
 

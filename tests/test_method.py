@@ -12,7 +12,7 @@ from pathlib import Path
 
 import generate
 import library
-from independent import Refused, chain, frame, load, register, sample, sheet, stream, writing
+from independent import Refused, chain, frame, load, panels, register, sample, sheet, stream, writing
 
 TOP = Path(__file__).resolve().parent.parent
 TEXT = (TOP / "docs" / "METHOD.md").read_text()
@@ -185,9 +185,9 @@ class Chain(Example):
         if isinstance(answer, Refused):
             self.answers(answer)
         else:
-            self.record, self.direct = answer, chain.Direct(W, g, a, start)
+            self.record, self.direct = answer, panels.Course(start, W=W, g=g, a=a)
             self.answers(answer, v=answer.weights[: answer.units])
-            self.facts += facts_of(e=self.direct.e) + self.state()
+            self.facts += facts_of(e=self.direct.panel.e) + self.state()
 
     def hand_in(self):
         v = self.given["v"]
@@ -196,17 +196,17 @@ class Chain(Example):
         self.direct = None
 
     def renew(self):
-        lists = self.lists("W", "g", "a")
+        opening = {name: self.given[name] for name in ("W", "g", "a")}
         before = self.record
-        expected = chain.renew(before, *lists)
-        self.same(library.renew(before, *lists), expected)
+        expected = panels.renew(before, **opening)
+        self.same(library.renew(before, **opening), expected)
         self.record, answer = expected
         if isinstance(answer, Refused):
             self.answers(answer)
         else:
             self.answers(answer, v=self.record.weights[: self.record.units])
             if self.direct is not None:
-                self.direct.renewed(*lists)
+                self.direct.renewed(opening)
         self.facts = self.state()
 
     def call(self, word, p):
@@ -484,6 +484,11 @@ def record_of(data):
     return chain.Record(*(data[name] for name in ("units", "weights", "index", "closes", "links")))
 
 
+def opening_of(data):
+    """What a renewal brings beside its record."""
+    return {name: data[name] for name in ("W", "g", "a", "marks", "G") if name in data}
+
+
 def number_of(answer):
     """A refusal's number without what comes with it."""
     return Refused(answer.number) if isinstance(answer, Refused) else answer
@@ -496,7 +501,8 @@ ENTRIES = {
     "open": (generate.open_cases, lambda data: chain.open_chain(**data)),
     "quarter": (generate.quarter_cases, lambda data: chain.quarter(record_of(data), data["p"])[1]),
     "close": (generate.close_cases, lambda data: chain.close(record_of(data), data["p"])[1]),
-    "renew": (generate.renew_cases, lambda data: chain.renew(record_of(data), data["W"], data["g"], data["a"])[1]),
+    "renew": (generate.renew_cases, lambda data: panels.renew(record_of(data), **opening_of(data))[1]),
+    "renew with G": (generate.renew_outside_cases, lambda data: panels.renew(record_of(data), **opening_of(data))[1]),
     "total": (generate.total_cases, lambda data: chain.total(**data)),
     "read": (generate.reader_cases, lambda data: stream.read_command(data["part"])[0]),
     "load": (generate.load_cases, lambda data: load.load(**data)[0]),
@@ -629,7 +635,7 @@ def test_refusals_in_the_text(t):
 def test_definitions_named(t):
     """Every single name in back quotes is a definition, but for the program's and those of the examples."""
     prose = re.sub(r"```.*?```", "", TEXT, flags=re.DOTALL)
-    names = set(re.findall(r"`(\w+)`", prose)) - {"chainrun", "distance", "bound"}
+    names = set(re.findall(r"`(\w+)`", prose)) - {"chainrun", "distance", "bound", "multiplier"}
     for name in sorted(names):
         defined = re.search(rf"^\s*(?:abbrev |unfoldable |pub |record )*{name}\s*[:(]", DEFINITIONS, re.MULTILINE)
         t.check(defined, f"METHOD.md: no definition is called {name}")

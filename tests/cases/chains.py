@@ -1,4 +1,4 @@
-"""Cases of open, quarter, close, renewal, whole chains, and the total over sectors."""
+"""Cases of open, quarter, close, whole chains, and the total over sectors."""
 
 from . import (
     HALF,
@@ -414,58 +414,6 @@ def close_cases(rng, count):
         yield 0, "random", a_call(rng)
 
 
-# Renewal: a record, and the lists of an opening
-
-
-def a_renewal(rng):
-    """An acceptable record, and an opening's lists of a length of their own."""
-    data = a_call(rng)
-    del data["p"]
-    opening = an_opening(rng)
-    return data | {name: opening[name] for name in ("W", "g", "a")}
-
-
-RENEWAL_FAULTS = {19: RECORD_FAULTS} | {number: OPEN_FAULTS[number] for number in (9, 10, 11, 13, 21, 22)}
-
-
-def no_weights_held(rng, data):
-    """All weights of the record 0."""
-    data["weights"][: data["units"]] = [0] * data["units"]
-
-
-RENEWAL_FAULTS[19] = RECORD_FAULTS | {"no weights": no_weights_held}
-
-# Document 02's worked renewal: forty closes, and lists of two units
-FORTY = {"units": 1, "weights": [2_000_000] + [0] * 99, "index": 10**9, "closes": 40, "links": 40}
-TWO_UNITS = {"W": [1_000_000, 5_000_000], "g": [10_000] * 2, "a": [100_000] * 2}
-
-
-def renewal_limits(rng):
-    """Each limit of the record from both sides, where 24 never comes, and the limits of the opening but for its start index."""
-    opening = {name: value for name, value in an_opening(rng, 3).items() if name != "start"}
-    for what, (within, first), (beyond, second) in record_limits(rng):
-        if beyond == 19:
-            records = ({name: data[name] for name in data if name != "p"} for data in (first, second))
-            yield what, *zip((0, 19), (record | opening for record in records))
-    record = {name: value for name, value in a_small_call(rng).items() if name != "p"}
-    for what, *sides in open_limits(rng):
-        if not what.startswith("start"):
-            yield what, *((due, record | {name: data[name] for name in ("W", "g", "a")}) for due, data in sides)
-    no_lists = {"W": [], "g": [], "a": []}
-    yield "forty links", (0, FORTY | TWO_UNITS), (9, FORTY | no_lists)
-    yield "19 before 9", (9, changed(FORTY, closes=3, links=3) | no_lists), (19, changed(FORTY, closes=3, links=2) | no_lists)
-    yield "C within, never 12", (0, changed(FORTY, index=10**8) | TWO_UNITS), (19, changed(FORTY, index=10**8 - 1) | TWO_UNITS)
-
-
-@cases
-def renew_cases(rng, count):
-    """Renewal: means to hit 19, 9, 10, 11, 13, 21 and 22; never 12 and never 24."""
-    yield from limits_of(renewal_limits(rng))
-    yield from faults_of(rng, a_renewal, RENEWAL_FAULTS)
-    for _ in range(count):
-        yield 0, "random", a_renewal(rng)
-
-
 # Chains: one open and a list of calls
 
 
@@ -578,48 +526,6 @@ def chain_cases(rng, count):
         yield 0, what, data
     for _ in range(count):
         yield 0, "random chain", a_chain(rng)
-
-
-# Chains through several panels: quarters, closes and renewals from one opening
-
-# Document 02's forty panels: each loses at its opening, and one close moves its two units far apart
-LOSING_PANEL = ([4_000_016, 322_586_129], [10_000, 31], [100_000, 99_999])
-FAR_APART = [25_000, 400_000]
-
-
-def worked_panels():
-    """Forty panels of one close each, which need the allowance of every panel; and a panel without a close, which has none."""
-    renewal = ("renew", *LOSING_PANEL)
-    forty = ([("close", FAR_APART), renewal] * 40)[:-1]
-    names = ("W", "g", "a")
-    yield "forty panels of one close", dict(zip(names, LOSING_PANEL), start=10**9, calls=forty)
-    two = dict(W=[2_000_000] * 2, g=[10_000] * 2, a=[100_000] * 2, start=10**9)
-    one = ([10_000], [100_000])
-    calls = [("close", [110_000, 100_000]), ("renew", [3_000_000], *one), ("renew", [4_000_000], *one), ("quarter", [120_000])]
-    yield "a panel without a close", two | {"calls": calls}
-
-
-def panels(rng):
-    """A chain whose panel is renewed now and then, by renewals that are refused too."""
-    first = a_chain(rng)
-    calls = []
-    for part in [first] + [a_chain(rng) for _ in range(rng.choice([1, 2, 5]))]:
-        if part is not first:
-            opening = [list(part[name]) for name in ("W", "g", "a")]
-            if rng.random() < 0.2:
-                calls.append(("renew", *opening[:2], spoilt(rng, opening[2])))
-            calls.append(("renew", *opening))
-        calls += part["calls"][: rng.choice([0, 1, 4, 15, 45])]
-    return first | {"calls": calls}
-
-
-@cases
-def panels_cases(rng, count):
-    """Whole chains through several panels for demand 3: openings that are accepted; calls hit 9, 13, 19, 21, 22, 23 and 24."""
-    for what, data in worked_panels():
-        yield 0, what, data
-    for _ in range(count):
-        yield 0, "random panels", panels(rng)
 
 
 # Total

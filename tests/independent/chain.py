@@ -1,6 +1,6 @@
-"""Document 01: "Chain record" with demand 3, and "Total"; relatives in hundred-thousandths (document 02, [5]), renewals ([11])."""
+"""Document 01: "Chain record" with demand 3, and "Total"; relatives in hundred-thousandths (document 02, [5])."""
 
-from dataclasses import dataclass, replace
+from dataclasses import dataclass
 from fractions import Fraction
 
 from . import Refused
@@ -36,11 +36,6 @@ class Figure:
     """The answer F of a quarter or close."""
 
     F: int
-
-
-@dataclass(frozen=True)
-class Renewed:
-    """A renewal was accepted; its record is handed back beside it."""
 
 
 @dataclass(frozen=True)
@@ -189,24 +184,6 @@ def close(record, p):
     return Record(record.units, weights, F, record.closes + 1, record.links + 1), Figure(F)
 
 
-# Renewal (document 02, [11])
-
-
-def renewal_refusal(record, W, g, a):
-    """19 of the record, "before all else", then the opening's, with C for its start index; never 24."""
-    if breaks_a_limit(record):
-        return 19
-    return open_refusal(W, g, a, record.index)
-
-
-def renew(record, W, g, a):
-    """ "takes its C as the start index and its link count onward; its closes begin at 0"; or the record as it came and a refusal."""
-    refusal = renewal_refusal(record, W, g, a)
-    if refusal is not None:
-        return record, Refused(refusal)
-    return replace(open_chain(W, g, a, record.index), links=record.links), Renewed()
-
-
 # A year in one call (document 02, [6])
 
 
@@ -242,23 +219,13 @@ def year(record, first, second, third, last, figures):
 
 
 class Direct:
-    """e, E and m, reckoned from the open's arguments and the accepted calls, never from a record.
-
-    `start` is the first start index times the means of the panels that were left, and `left` their part of the bound.
-    """
+    """e, E and m, reckoned from the open's arguments and the accepted calls, never from a record."""
 
     def __init__(self, W, g, a, start):
         self.start = Fraction(start)
-        self.m = 1
-        self.left = 0
-        self.new_panel(W, g, a)
-
-    def new_panel(self, W, g, a):
-        """The exact weights of an opening or a renewal, and what its panel adds to m: one."""
         self.e = [Fraction(W[i] * g[i] * a[i], 1_000_000_000) for i in range(len(W))]
         self.E = sum(self.e)
-        self.extra = 1
-        self.closes = 0
+        self.m = 1
 
     def D(self, p):
         """D of a call that is not refused."""
@@ -269,18 +236,10 @@ class Direct:
         """After a close that is not refused: e moves without rounding, m grows by one."""
         self.e = [self.e[i] * Fraction(p[i], SCALE) for i in range(len(p))]
         self.m += 1
-        self.closes += 1
-
-    def renewed(self, W, g, a):
-        """After a renewal that is not refused: "Of a panel that was left, only its accepted closes enter the product." """
-        self.start *= sum(self.e) / self.E
-        if self.closes > 0:
-            self.left += self.extra
-        self.new_panel(W, g, a)
 
     def allowed(self):
-        """What the bound multiplies: "m plus one … for each panel that has an accepted close or gives the figure"."""
-        return self.m + self.left + self.extra
+        """What the bound multiplies: m + 1."""
+        return self.m + 1
 
 
 def within_bound(F, D, allowed):

@@ -1,28 +1,3 @@
-// A renewal for callers in C, on a lent record (document 02, [11]).
-use c_values::opening_number;
-use c_values::record;
-ghost use mathlib.Core.Path.{_≡_};
-ghost use Rattle.c_renew.specs.Record.{renewedNumber, renewedList};
-
-// Opens new weights from a lent record, and lays their record over it.
-#[no_mangle]
-pub extern "C" fn vougecress_renew(
-    weights: &[u64],
-    shares: &[u32],
-    relatives: &[u32],
-    lent: &mut [u64],
-) -> u32
-    ensures { λ r. ⌜ r ≡ renewedNumber (now (weights .entry)) (now (shares .entry)) (now (relatives .entry)) (now (lent .entry)) ⌝ }
-    ensures { λ _. ⌜ now (lent .exit) ≡ renewedList (now (weights .entry)) (now (shares .entry)) (now (relatives .entry)) (now (lent .entry)) ⌝ }
-{
-    if lent.len() < record::RECORD {
-        return 19;
-    }
-    let held = record::load(lent);
-    let opened = chain_renew::renew(held, weights, shares, relatives);
-    let answer = opened.answer;
-    let refusal = opening_number(answer);
-    let chain = opened.chain;
-    record::lay(refusal, chain, lent);
-    refusal
-}
+// Document 02, [11], for callers in C: a renewal on a lent record, without and with an outside share.
+pub mod outside;
+pub mod renewal;

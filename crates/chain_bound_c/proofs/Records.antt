@@ -10,7 +10,9 @@ use Rattle.rules.specs.Refusals.{stays, written}
 use Rattle.rules.specs.Chain.{Chain, Call, held, opening, moved, openRecord, callRefusal, accepted, after}
 use Rattle.rules.specs.Panel.{Panel, panelShared, panelRefusal, panelRecord}
 use Rattle.rules.specs.Year.{afterAll}
+use Rattle.rules.specs.Renewal.{renewalRefusal, renewedRecord, renewalAfter}
 use Rattle.rules.proofs.Refusals.{then-none}
+use Rattle.rules.proofs.Renewals.{renewal-opens}
 use Rattle.rules.proofs.Chains.{admitted}
 use Rattle.chain_bound.proofs.Accepted.{closed-reached, reached-length}
 use Rattle.chain_bound.proofs.Shares.{shares-near}
@@ -74,3 +76,11 @@ pub full-all : (calls : List Call) (r : Chain) → Full r → Full (afterAll r c
 unfolding afterAll
 full-all [] r full = full
 full-all (call ∷ calls) r full = full-all calls (after r call) (full-after r full call)
+
+pub full-renewed : (r : Chain) (p : Panel) → Full r → Full (renewalAfter r p)
+unfolding renewalAfter renewedRecord
+full-renewed r p full = go (renewalRefusal r p) refl
+  where
+    go : (n : ℕ) → renewalRefusal r p ≡ n → Full (stays n r (renewedRecord r p))
+    go zero e = full-open p (r .index) (renewal-opens r p e)
+    go (suc n) e = full

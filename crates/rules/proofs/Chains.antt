@@ -87,6 +87,10 @@ closes-follow closes links = by-test (ltb mostCloses links) (λ e. rw e (many (l
     few : links ≤ mostCloses → (ltb mostCloses closes or false) or ltb links closes ≡ false or ltb links closes
     few h = by-test (ltb mostCloses closes) (λ e. rw (e, lt-ltb links closes (omega (arith, h, ltb-true mostCloses closes e)))) (λ e. rw e)
 
+pub index-within : (r : Chain) → broken r ≡ false → badIndex (r .index) ≡ false
+unfolding broken
+index-within r e = or-false _ _ (or-false _ _ (or-false _ _ (or-false _ _ e .0) .0) .0) .1
+
 pub sound : (r : Chain) → broken r ≡ false → Sound r
 unfolding broken badIndex
 sound r e =

@@ -7,4 +7,5 @@ pub mod PanelCases
 pub mod Reference
 pub mod Border
 pub mod Years
+pub mod Renewals
 pub mod Leavers

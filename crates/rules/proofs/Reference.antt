@@ -15,7 +15,7 @@ use Rattle.rules.specs.Order.{put, ordered}
 use Rattle.rules.specs.Rotation.{Rotated, member, members, required, startAt, leaves, suffices, leastStep, leavers, badOldPanel, oldPanelRefusal, rotationRefusal, rotationAnswer, rotationLeavers}
 use Rattle.rules.specs.Chain.{Chain, Call, held, badIndex, badRelative, badWeight, badUnits, badOpenLists, badBase, badShares, openInputRefusal, weightRefusal, openRefusal, openRecord, link, figureAt, badLinks, broken, callInputRefusal, figureRefusal, callRefusal, callAnswer}
 use Rattle.rules.specs.Panel.{plain}
-use Rattle.rules.specs.Direct.{Direct, exactOpen, panelExact, exactMoved, directOpen, directAfter, numerator, denominator}
+use Rattle.rules.specs.Direct.{Direct, exactOpen, panelExact, exactMoved, directPanel, directOpen, directAfter, numerator, denominator}
 use Rattle.rules.specs.Total.{badSectors, totalOf, totalAnswer}
 use Rattle.rules.specs.Stream.{bigEndian, operandsOf, widthOf, commandOf, readingRefusal, reading, restOf}
 use Rattle.rules.specs.Decimal.{digitsOn, decimalOn}
@@ -133,7 +133,7 @@ unfolding _or_ _and_ outside refuse _then_ sum products scaled anyOf anyPair ris
     shifted keyNumerator keyDenominator fractionBelow keyBelow sampledBy drawnBy panelNumbers panelWeights badLists badRandom frameRefusal drawRefusal drawAnswer drawNumbers drawWeights
     member members required startAt leaves suffices leastStep leavers badOldPanel oldPanelRefusal rotationRefusal rotationAnswer rotationLeavers
     held badIndex badRelative badWeight badUnits badOpenLists badBase badShares openInputRefusal weightRefusal openRefusal openRecord link figureAt badLinks broken callInputRefusal figureRefusal callRefusal callAnswer
-    exactOpen panelExact exactMoved directOpen numerator denominator badSectors totalOf totalAnswer
+    exactOpen panelExact exactMoved directPanel numerator denominator badSectors totalOf totalAnswer
     bigEndian operandsOf widthOf commandOf readingRefusal reading restOf digitsOn decimalOn lineOf lineOf2 panelLines
     emptyJob withUnit onUnit withPanel onDraw placeRefusal withShare onShare withRelative onRelative withChain onOpen step printed output
 reference-table =
