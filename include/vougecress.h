@@ -141,7 +141,7 @@ uint32_t vougecress_open(const uint64_t *weights, size_t weights_count,
  * 1 less the take-all mark at the unit's place in the frame (examples/open_outside.py).
  * With n the count of marked units, absent ones among them, X their W, alike for all, and T the sum of their shares, a sampled
  * unit's u is floor(floor(n x X x G / 10,000) x g / T); a take-all unit keeps its u. With no unit marked G is not read.
- * Writes the first 103 places of `record`. Answers 0, or 6 (record shorter than 103), 9 (also for marks of another length), 10,
+ * Writes the first 104 places of `record`. Answers 0, or 6 (record shorter than 104), 9 (also for marks of another length), 10,
  * 11, 12, 13, 29, 21 or 22; 29 comes before 21.
  */
 uint32_t vougecress_open_outside(const uint64_t *weights, size_t weights_count,

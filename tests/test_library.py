@@ -243,8 +243,8 @@ def test_year(t):
 
 
 def test_year_record_list(t):
-    """A list that is shorter than 103 places is no record: 19, after 28; one place more stays."""
-    full = [1, 10**9, 0, 2 * 10**6] + [0] * 99
+    """A list that is shorter than 104 places is no record: 19, after 28; one place more stays."""
+    full = [1, 10**9, 0, 0, 2 * 10**6] + [0] * 99
     lists = [[101_000], [102_000], [103_000], [104_000]]
     for record, room, due in ((full[:-1], 3, 28), (full[:-1], 4, 19), (full, 3, 28)):
         answer, (after, *_, figures) = library.call("vougecress_year", record, *lists, [7] * room)
@@ -253,7 +253,7 @@ def test_year_record_list(t):
     answer, (after, *_, figures) = library.call("vougecress_year", full + [5], *lists, [7] * 6)
     t.check((answer.refusal, answer.count) == (0, 4), "an accepted year")
     t.check(figures == [1_010_000_000, 1_020_000_000, 1_030_000_000, 1_040_000_000, 7, 7], "its figures")
-    t.check(after[:4] == [1, 1_040_000_000, 1, 2_080_000] and after[-1] == 5, "its record, and a place beyond")
+    t.check(after[:5] == [1, 1_040_000_000, 1, 1, 2_080_000] and after[-1] == 5, "its record, and a place beyond")
 
 
 def test_total(t):
