@@ -12,7 +12,7 @@ try:
     LIBRARY = ctypes.CDLL(str(Path(__file__).resolve().parent.parent / "build" / "libvougecress.so"))
 except OSError as error:
     raise SystemExit(f"example.py: {error}; ./build.sh builds the library")
-RECORD = 103
+RECORD = 104
 WHOLE_SHARE = 10_000
 INDEX_OF_100 = 10**9
 

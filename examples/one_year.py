@@ -13,7 +13,7 @@ import sys
 from ctypes import c_size_t, c_uint32, c_uint64
 from pathlib import Path
 
-RECORD = 103
+RECORD = 104
 INDEX, CLOSES = 1, 2
 
 

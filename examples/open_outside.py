@@ -19,7 +19,7 @@ NUMBERS = [11, 12, 13, 14, 15]
 TURNOVERS = [70_000_000, 10_000_000, 8_000_000, 7_000_000, 5_000_000]
 RANDOMS = [300_000, 500_000, 200_000, 900_000, 100_000]
 SIZE = 3
-WEIGHTS, RECORD = 3, 103  # first weight of a record, and its places
+WEIGHTS, RECORD = 4, 104  # first weight of a record, and its places
 
 
 class Taken(ctypes.Structure):

@@ -89,7 +89,7 @@ enum vougecress_refusal {
 #define VOUGECRESS_LOWEST_INDEX UINT64_C(100000000)          /* the range of an index: 10, */
 #define VOUGECRESS_HIGHEST_INDEX UINT64_C(10000000000)       /* to 1,000 */
 #define VOUGECRESS_INDEX_OF_100 UINT64_C(1000000000)
-#define VOUGECRESS_MOST_CLOSES 40                            /* closes of one chain */
+#define VOUGECRESS_MOST_CLOSES 40                            /* closes of one chain, over all its panels: its links */
 #define VOUGECRESS_YEAR_PLACES 4                             /* figures of a year: three quarters and the close */
 #define VOUGECRESS_MOST_SECTORS 64                           /* sectors of a total, and of a sample; places of a sample's lists */
 #define VOUGECRESS_SECTOR_SCALE 1000000                      /* what the sector shares add to */
@@ -111,9 +111,10 @@ enum vougecress_refusal {
 enum {
     VOUGECRESS_UNITS = 0,   /* number of units */
     VOUGECRESS_INDEX = 1,   /* C; an index of 100 is 1,000,000,000 */
-    VOUGECRESS_CLOSES = 2,  /* accepted closes */
-    VOUGECRESS_WEIGHTS = 3, /* first of 100 weights v, one a unit; places beyond the units are 0 after an open */
-    VOUGECRESS_RECORD = 103 /* places of a record */
+    VOUGECRESS_CLOSES = 2,  /* accepted closes of the present panel */
+    VOUGECRESS_LINKS = 3,   /* accepted closes of all panels since the open */
+    VOUGECRESS_WEIGHTS = 4, /* first of 100 weights v, one a unit; places beyond the units are 0 after an open or a renewal */
+    VOUGECRESS_RECORD = 104 /* places of a record */
 };
 
 struct vougecress_figure {
@@ -124,7 +125,7 @@ struct vougecress_figure {
 /*
  * Opens a chain: W, shares g in ten-thousandths and updating relatives a in hundred-thousandths, one a unit, and a start index.
  * An updating relative leads from the reference year, in which the turnovers were made, to the opening.
- * Writes the first 103 places of `record`. Answers 0, or 6 (record shorter than 103), 9, 10, 11, 12, 13, 21 or 22.
+ * Writes the first 104 places of `record`. Answers 0, or 6 (record shorter than 104), 9, 10, 11, 12, 13, 21 or 22.
  */
 uint32_t vougecress_open(const uint64_t *weights, size_t weights_count,
                          const uint32_t *shares, size_t shares_count,
@@ -140,7 +141,7 @@ uint32_t vougecress_open(const uint64_t *weights, size_t weights_count,
  * 1 less the take-all mark at the unit's place in the frame (examples/open_outside.py).
  * With n the count of marked units, absent ones among them, X their W, alike for all, and T the sum of their shares, a sampled
  * unit's u is floor(floor(n x X x G / 10,000) x g / T); a take-all unit keeps its u. With no unit marked G is not read.
- * Writes the first 103 places of `record`. Answers 0, or 6 (record shorter than 103), 9 (also for marks of another length), 10,
+ * Writes the first 104 places of `record`. Answers 0, or 6 (record shorter than 104), 9 (also for marks of another length), 10,
  * 11, 12, 13, 29, 21 or 22; 29 comes before 21.
  */
 uint32_t vougecress_open_outside(const uint64_t *weights, size_t weights_count,
@@ -162,7 +163,7 @@ struct vougecress_figure vougecress_quarter(const uint64_t *record, size_t recor
                                             const uint32_t *relatives, size_t relatives_count);
 
 /*
- * The figure F of a year's close. The record's index becomes F, each weight floor(v x p / 100,000), and one close is counted.
+ * The figure F of a year's close. The record's index becomes F, each weight floor(v x p / 100,000), and one close and one link are counted.
  * Refusals 19, 9, 13, 21, 22, 23, 24.
  */
 struct vougecress_figure vougecress_close(uint64_t *record, size_t record_count,
@@ -186,6 +187,30 @@ struct vougecress_came vougecress_year(uint64_t *record, size_t record_count,
                                        const uint32_t *third, size_t third_count,
                                        const uint32_t *last, size_t last_count,
                                        uint64_t *figures, size_t figures_count);
+
+/*
+ * Renews the panel of a chain: opens new weights from a record, with lists as an open has them, of a length of their own. The record's
+ * index is the start index, its links go onward, and its closes begin at 0; of its weights nothing goes on. An updating relative leads from the
+ * reference year to the renewal, and the relatives of the calls after it are measured against the renewal as against an opening.
+ * Writes the first 104 places of `record`. Answers 0, or 19 (the record breaks a limit, or is shorter than 104), 9, 10, 11, 13, 21 or 22.
+ * Never 24: at forty links a renewal is accepted, and each quarter or close after it is refused by 24.
+ */
+uint32_t vougecress_renew(const uint64_t *weights, size_t weights_count,
+                          const uint32_t *shares, size_t shares_count,
+                          const uint32_t *relatives, size_t relatives_count,
+                          uint64_t *record, size_t record_count);
+
+/*
+ * The same with an outside share: the domain share G in ten-thousandths, and for each unit whether it was sampled, 0 for a take-all unit and
+ * any other number for a sampled one (the marks of vougecress_take_all say the contrary).
+ * Answers 0, or 19, 9 (also where there is not one mark for each unit), 10, 11, 13, 29, 21 or 22.
+ */
+uint32_t vougecress_renew_outside(const uint64_t *weights, size_t weights_count,
+                                  const uint32_t *shares, size_t shares_count,
+                                  const uint32_t *relatives, size_t relatives_count,
+                                  const uint8_t *sampled, size_t sampled_count,
+                                  uint32_t domain,
+                                  uint64_t *record, size_t record_count);
 
 /* ---- Frame ("Frame and weights", "Draw")
  *

@@ -19,6 +19,7 @@ from cases.frames import (
 )
 from cases.loads import load_cases
 from cases.outsides import outside_cases, outside_chain_cases
+from cases.panels import panels_cases, renew_cases, renew_outside_cases
 from cases.streams import LISTING, many_draw_cases, reader_cases, stream_cases, word_cases
 from cases.samples import sample_cases
 from cases.registers import register_cases
@@ -43,12 +44,15 @@ __all__ = [
     "open_cases",
     "outside_cases",
     "outside_chain_cases",
+    "panels_cases",
     "poisson_draw_cases",
     "poisson_rotate_cases",
     "quarter_cases",
     "read_all_cases",
     "reader_cases",
     "register_cases",
+    "renew_cases",
+    "renew_outside_cases",
     "rotate_cases",
     "sample_cases",
     "sheet_cases",

@@ -13,6 +13,7 @@ from pathlib import Path
 
 from independent import Refused
 from independent.chain import Figure, Record, Stopped, Total, Year
+from independent.panels import Renewed
 from independent.frame import Drawn, Rotated, Taken
 from independent.sample import Shared
 from independent.register import BadLine
@@ -21,7 +22,7 @@ from independent.stream import END
 
 TOP = Path(__file__).resolve().parent.parent
 PLACES = 100
-FIELDS_BEFORE_WEIGHTS = 3
+FIELDS_BEFORE_WEIGHTS = 4
 
 
 def answer_type(*fields):
@@ -57,6 +58,8 @@ ListedAnswer = answer_type(("count", c_uint64))
 SIGNATURES = {
     "vougecress_open": (c_uint32, ("u64s", "u32s", "u32s", c_uint64, "u64s")),
     "vougecress_open_outside": (c_uint32, ("u64s", "u32s", "u32s", c_uint64, "u8s", c_uint32, "u64s")),
+    "vougecress_renew": (c_uint32, ("u64s", "u32s", "u32s", "u64s")),
+    "vougecress_renew_outside": (c_uint32, ("u64s", "u32s", "u32s", "u8s", c_uint32, "u64s")),
     "vougecress_quarter": (FigureAnswer, ("u64s", "u32s")),
     "vougecress_close": (FigureAnswer, ("u64s", "u32s")),
     "vougecress_year": (YearAnswer, ("u64s", "u32s", "u32s", "u32s", "u32s", "u64s")),
@@ -155,12 +158,12 @@ def unchanged(lists, arguments):
 
 
 def as_list(record):
-    return [record.units, record.index, record.closes] + list(record.weights)
+    return [record.units, record.index, record.closes, record.links] + list(record.weights)
 
 
 def as_record(numbers):
-    units, index, closes = numbers[:FIELDS_BEFORE_WEIGHTS]
-    return Record(units, numbers[FIELDS_BEFORE_WEIGHTS:], index, closes)
+    units, index, closes, links = numbers[:FIELDS_BEFORE_WEIGHTS]
+    return Record(units, numbers[FIELDS_BEFORE_WEIGHTS:], index, closes, links)
 
 
 def open_chain(W, g, a, start):
@@ -181,6 +184,18 @@ def open_outside(W, g, a, start, marks, G):
     if number == 0:
         return as_record(after)
     return Refused(number) if after == before else ("a refused open wrote its record", number)
+
+
+def renew(record, W, g, a, marks=None, G=None):
+    """The record of the new panel, or the record as it was and a refusal."""
+    before, lists = as_list(record), [W, g, a]
+    if marks is None:
+        number, (*inputs, after) = call("vougecress_renew", *lists, before)
+    else:
+        lists.append(marks)
+        number, (*inputs, after) = call("vougecress_renew_outside", *lists, G, before)
+    unchanged(inputs, lists)
+    return as_record(after), Refused(number) if number else Renewed()
 
 
 def called(name, record, p):

@@ -11,7 +11,7 @@ import definitions
 from cases.frames import WORKED_BIRTHS
 from cases.samples import WORKED
 from definitions import number_list
-from independent import Refused, chain, frame, load, outside, register, sample, sheet, stream, writing
+from independent import Refused, chain, frame, load, outside, panels, register, sample, sheet, stream, writing
 from cases import registers, years
 from cases.outsides import outside_cases
 
@@ -81,7 +81,7 @@ def frame_refusal_cases(numbers, turnovers, randoms, z, start):
 
 
 def record_text(record):
-    fields = f"weights = {number_list(record.weights)}; units = {record.units}; index = {record.index}; closes = {record.closes}"
+    fields = f"weights = {number_list(record.weights)}; units = {record.units}; index = {record.index}; closes = {record.closes}; links = {record.links}"
     return f"(record {{ {fields} }})"
 
 
@@ -90,7 +90,10 @@ def open_cases(W, g, a, start):
     yield f"openAnswer {number_list(W)} {number_list(g)} {number_list(a)} {start}", judged(told, record_text)
 
 
-def panel_text(W, g, a, marks, G):
+def panel_text(W, g, a, marks=None, G=None):
+    """What an opening brings, with or without an outside share."""
+    if marks is None:
+        return "(plain " + " ".join(map(number_list, (W, g, a))) + ")"
     return f"(withDomain {G} " + " ".join(map(number_list, (marks, W, g, a))) + ")"
 
 
@@ -128,10 +131,30 @@ def year_cases(record, lists, buffer):
     yield f"yearCalls {record_text(record)} {len(buffer)} {four_calls(lists)}", "(" + " ∷ ".join(names[:made] + ["[]"]) + ")"
 
 
+def renewal_cases(record, **opening):
+    after, told = panels.renew(record, **opening)
+    rest = f"{record_text(record)} {panel_text(**opening)}"
+    yield f"renewalAnswer {rest}", judged(told, lambda _: record_text(after))
+    yield f"renewalAfter {rest}", record_text(after)
+
+
 def direct_cases(W, g, a, start, closes, p):
     """D after some closes, by cross multiplication with the fraction."""
     exact = chain.Direct(W, g, a, start)
-    yield from exact_cases(exact, f"directOpen (plain {number_list(W)} {number_list(g)} {number_list(a)}) {start}", closes, p)
+    yield from exact_cases(exact, f"directOpen {panel_text(W, g, a)} {start}", closes, p)
+
+
+def course_cases(start, opening, moves, p):
+    """D and the bound after closes and renewals, each ("close", relatives) or ("renew", an opening)."""
+    exact, state = panels.Course(start, **opening), f"directOpen {panel_text(**opening)} {start}"
+    for kind, value in moves:
+        if kind == "close":
+            exact.closed(value)
+            state = f"directAfter ({state}) (Call.close {number_list(value)})"
+        else:
+            exact.renewed(value)
+            state = f"directRenewed ({state}) {panel_text(**value)}"
+    yield from exact_cases(exact, state, [], p)
 
 
 def exact_cases(exact, state, closes, p):
@@ -149,6 +172,8 @@ def event_text(name, p, told):
     """What a call came to: its refusal's number, or the call with its figure."""
     if isinstance(told, Refused):
         return f"Event.refused {told.number}"
+    if name == "renew":
+        return f"Event.renewed {panel_text(**p)}"
     return f"Event.answered (Call.{name} {number_list(p)}) {told.F}"
 
 
@@ -161,6 +186,8 @@ def single_calls(name, p):
 
 
 def made_text(name, p):
+    if name == "renew":
+        return f"Made.renewal {panel_text(**p)}"
     if name != "year":
         return f"Made.call (Call.{name} {number_list(p)})"
     room, *lists = p
@@ -168,11 +195,11 @@ def made_text(name, p):
 
 
 def event_cases(W, g, a, start, calls):
-    """What a list of quarters, closes and years comes to after an open; a year is ("year", (places, four lists))."""
+    """What a list of quarters, closes, years and renewals comes to after an open: ("year", (places, four lists)), ("renew", an opening)."""
     record, came = chain.open_chain(W, g, a, start), []
     for name, p in calls:
         for single, relatives in single_calls(name, p):
-            record, told = getattr(chain, single)(record, relatives)
+            record, told = panels.renew(record, **relatives) if single == "renew" else getattr(chain, single)(record, relatives)
             came.append(event_text(single, relatives, told))
             if isinstance(told, Refused):
                 break
@@ -395,9 +422,67 @@ def call_suite(rng, count):
         v = faulty(rng, v, [999_999] + v[1:], [0] * units, [10**13 - sum(v[1:])] + v[1:], [10**13 + 1 - sum(v[1:])] + v[1:], [1] + v[1:])
         index = faulty(rng, rng.choice([10**8, 10**9, 10**10, 4 * 10**8, 399_999_999]), 10**8 - 1, 10**10 + 1)
         closes = faulty(rng, rng.choice([0, 1, 39]), 40, 41)
+        links = faulty(rng, rng.choice([closes, 39]), closes - 1 if closes else 0, 40, 41)
         count_units = faulty(rng, units, 0, 101)
         p = faulty(rng, p, p[:-1], p + [100_000], [24_999] + p[1:], [400_001] + p[1:], [0] + p[1:], [1] + p[1:])
-        yield from call_cases(chain.Record(count_units, v + beyond, index, closes), p)
+        yield from call_cases(chain.Record(count_units, v + beyond, index, closes, links), p)
+
+
+def renewal_suite(rng, count):
+    """The worked records and faults of both sides; a renewal at forty links, and one whose lists have another length than the record."""
+    two = {"W": [1_000_000, 5_000_000], "g": [10_000] * 2, "a": [100_000] * 2}
+    for closes, links in ((40, 40), (0, 40), (3, 3), (3, 2), (41, 41), (0, 41), (41, 40)):
+        for opening in (two, {"W": [], "g": [], "a": []}, two | {"marks": [0, 1], "G": 9_000}, two | {"marks": [1], "G": 9_000}):
+            yield from renewal_cases(chain.Record(1, [2_000_000], 10**9, closes, links), **opening)
+    for index in (10**8 - 1, 10**8, 10**10, 10**10 + 1):
+        yield from renewal_cases(chain.Record(1, [2_000_000], index, 0, 0), **two)
+    for _ in range(count):
+        v = [rng.choice([0, 10**6, 4 * 10**6]) for _ in range(rng.randint(1, 3))]
+        v = faulty(rng, [10**6] + v, [999_999] + v, [0, 0])
+        closes = rng.choice([0, 1, 40])
+        record = chain.Record(len(v), v + [7] * rng.randint(0, 2), rng.choice([10**8, 10**9, 10**10]), closes, faulty(rng, 40, closes - 1 if closes else 41))
+        units = rng.randint(1, 3)
+        W = [rng.choice([10**6, 10**8, 4 * 10**12]) for _ in range(units)]
+        g = [10_000] + [rng.choice([10_000, 5_000, 0]) for _ in range(units - 1)]
+        a = [rng.choice([100_000, 25_000, 400_000]) if share else 0 for share in g]
+        W = faulty(rng, W, W[:-1], [0] + W[1:])
+        g = faulty(rng, g, g[:-1], [10_001] + g[1:], [0] * units)
+        a = faulty(rng, a, a[:-1], [24_999] + a[1:], [0] + a[1:])
+        outside_share = {"marks": [rng.choice([0, 1]) for _ in W], "G": faulty(rng, rng.choice([1, 5_000, 10_000]), 0, 10_001)}
+        yield from renewal_cases(record, W=W, g=g, a=a, **(outside_share if rng.random() < 0.4 else {}))
+
+
+def some_opening(rng):
+    """An opening of a few units, with or without an outside share, whose exact weights are positive."""
+    units = rng.randint(1, 3)
+    opening = {
+        "W": [rng.randrange(10**6, 10**11)] * units,
+        "g": [10_000] + [rng.choice([0, 1, 10_000]) for _ in range(units - 1)],
+    }
+    opening["a"] = moved(rng, opening)
+    if rng.random() < 0.4:
+        opening |= {"marks": [rng.choice([0, 1])] + [rng.choice([0, 7]) for _ in range(units - 1)], "G": rng.randrange(1, 10_001)}
+        if sum(share for share, mark in zip(opening["g"], opening["marks"]) if mark) == 0:
+            opening["marks"] = [0] * units
+    return opening
+
+
+def moved(rng, opening):
+    return [rng.randrange(25_000, 400_001) if share else 0 for share in opening["g"]]
+
+
+def course_suite(rng, count):
+    """Closes and renewals in any order: panels left with closes and without, and both kinds of opening."""
+    for _ in range(count):
+        first = present = some_opening(rng)
+        moves = []
+        for _ in range(rng.randint(0, 5)):
+            if rng.random() < 0.5:
+                moves.append(("close", moved(rng, present)))
+            else:
+                present = some_opening(rng)
+                moves.append(("renew", present))
+        yield from course_cases(rng.randrange(10**8, 10**10 + 1), first, moves, moved(rng, present))
 
 
 def direct_suite(rng, count):
@@ -418,10 +503,11 @@ def year_suite(rng, count):
             place = rng.randrange(4)
             lists[place] = faulty(rng, lists[place], lists[place][:-1], lists[place] + [100_000], [24_999] + lists[place][1:])
         index = faulty(rng, rng.choice([10**9, 10**10, 10**8]), 10**8 - 1)
-        record = chain.Record(len(v), v + [5] * rng.randint(0, 1), index, faulty(rng, rng.choice([0, 39]), 40, 41))
+        closes = faulty(rng, rng.choice([0, 39]), 40, 41)
+        record = chain.Record(len(v), v + [5] * rng.randint(0, 1), index, closes, faulty(rng, rng.choice([closes, 39]), 40, 41))
         yield from year_cases(record, lists, [7] * rng.choice([4, 4, 5, 3, 0]))
     for intends, _, data in years.worked_years():
-        record = chain.Record(1, data["weights"][:2], data["index"], data["closes"])
+        record = chain.Record(1, data["weights"][:2], data["index"], data["closes"], data["links"])
         yield from year_cases(record, [data[name] for name in years.LISTS], data["figures"])
 
 
@@ -445,6 +531,8 @@ def event_suite(rng, count):
             calls.append((rng.choice(["quarter", "close"]), faulty(rng, p, p[:-1], [24_999] + p[1:], [25_000] + p[1:])))
             if rng.random() < 0.3:
                 calls.append(some_year(rng, g))
+            if rng.random() < 0.3:
+                calls.append(("renew", {"W": [rng.choice([10**6, 999_999, 10**9])] * len(g), "g": g, "a": a}))
         yield from event_cases(W, g, a, rng.choice([10**8, 10**9, 4 * 10**9]), calls)
     one = ([10**8], [10_000], [100_000], 10**9)
     forty = [("close", [100_000])] * 40
@@ -600,7 +688,7 @@ def limit_suite():
             yield from frame_refusal_cases(list(range(units)), [1] * units, [0] * units, z, 0)
     for units in (100, 101):
         yield from open_cases([10**8] * units, [10_000] * units, [100_000] * units, 10**9)
-        yield from call_cases(chain.Record(units, [10**8] * 101, 10**9, 0), [100_000] * units)
+        yield from call_cases(chain.Record(units, [10**8] * 101, 10**9, 0, 0), [100_000] * units)
     for sectors in (64, 65):
         yield from total_cases([10**6] + [0] * (sectors - 1), [10**9] * sectors)
     panel = list(range(100))
@@ -616,7 +704,7 @@ def edge_suite():
     """Places where one number more or less decides, which random cases seldom meet."""
     for relative in (99_999, 100_000, 100_001):  # 22: the sum of the weights at 10^13
         yield from open_cases([10**13], [10_000], [relative], 10**9)
-        yield from call_cases(chain.Record(1, [10**13], 10**9, 0), [relative])
+        yield from call_cases(chain.Record(1, [10**13], 10**9, 0, 0), [relative])
     for turnovers in ([10**12 - 1, 1], [10**12, 1]):  # 3: the total turnover at 10^12
         yield from frame_refusal_cases([1, 2], turnovers, [0, 0], 1, 0)
     yield from take_all_cases([], 1, [])  # 1: no unit, before 5
@@ -720,6 +808,8 @@ SUITES = {
     "open": lambda rng, times: open_suite(rng, 90 * times),
     "outside": lambda rng, times: outside_suite(rng, 60 * times),
     "call": lambda rng, times: call_suite(rng, 90 * times),
+    "renewal": lambda rng, times: renewal_suite(rng, 25 * times),
+    "course": lambda rng, times: course_suite(rng, 25 * times),
     "direct": lambda rng, times: direct_suite(rng, 15 * times),
     "events": lambda rng, times: event_suite(rng, 25 * times),
     "year": lambda rng, times: year_suite(rng, 25 * times),

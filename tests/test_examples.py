@@ -10,7 +10,7 @@ import commands
 import generate
 import library
 from cases.samples import WORKED
-from independent import Refused, chain, frame, load, outside, register, sample, sheet
+from independent import Refused, chain, frame, load, outside, panels, register, sample, sheet
 
 TOP = Path(__file__).resolve().parent.parent
 NUMBERS, TURNOVERS = [11, 12, 13, 14, 15], [70_000_000, 10_000_000, 8_000_000, 7_000_000, 5_000_000]
@@ -177,6 +177,33 @@ def test_one_year(t):
         t.check(refused or wanted in (TOP / "README.md").read_text(), "README.md shows it", wanted)
     done = subprocess.run([sys.executable, TOP / "examples" / "one_year.py", "1"], capture_output=True, text=True)
     t.check((done.returncode, done.stdout) == (2, ""), "wrong use", done)
+
+
+def test_renewals(t):
+    """One chain through three panels, as the independent computation has it and as README shows it."""
+    library.built()
+
+    def held(record):
+        return f"units {record.units}, closes {record.closes}, links {record.links}"
+
+    def whole(W, **outside_share):
+        return {"W": W, "g": [10_000] * len(W), "a": [100_000] * len(W), **outside_share}
+
+    record = chain.open_chain(start=10**9, **whole([2_000_000] * 2))
+    lines = [f"opened at {record.index}, {held(record)}"]
+    for relatives, opening, said in (
+        ([110_000, 100_000], whole([3_000_000]), ""),
+        ([104_000], whole([8_000_000, 4_000_000, 4_000_000], marks=[0, 1, 1], G=8_000), " with an outside share"),
+    ):
+        record, answer = chain.close(record, relatives)
+        lines.append(f"close: {answer.F}, {held(record)}")
+        record, _ = panels.renew(record, **opening)
+        lines.append(f"renewed at {record.index}{said}, {held(record)}")
+    lines.append(f"quarter: {chain.quarter(record, [101_000, 102_000, 103_000])[1].F}, {held(record)}")
+    wanted = "".join(line + "\n" for line in lines)
+    done = subprocess.run([sys.executable, TOP / "examples" / "renewals.py"], capture_output=True, text=True)
+    t.check((done.returncode, done.stdout) == (0, wanted), "the chain through its panels", done)
+    t.check(wanted in (TOP / "README.md").read_text(), "README.md shows it", wanted)
 
 
 def test_make_load(t):

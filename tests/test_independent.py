@@ -14,6 +14,7 @@ from cases.frames import WORKED_ANSWERS, worked_births
 from independent import Refused
 from cases.outsides import WORKED as OUTSIDE_WORKED
 from independent.chain import Direct, Figure, Record, Total, close, open_chain, quarter, total, within_bound, year
+from independent.panels import Course, Renewed, renew
 from independent.outside import OutsideDirect, inner_floor, open_outside, shared_weights
 from independent.frame import Drawn, Rotated, Taken, draw, pareto_key, poisson_key, rotate, take_all, take_all_entry
 from independent.stream import COMMANDS, END, Job, front_word, read_command, run, step
@@ -64,7 +65,7 @@ def try_outside(data):
 
 def record_of(data):
     """The record of a quarter or close case."""
-    return Record(data["units"], data["weights"], data["index"], data["closes"])
+    return Record(*(data[name] for name in ("units", "weights", "index", "closes", "links")))
 
 
 def try_quarter(data):
@@ -74,6 +75,20 @@ def try_quarter(data):
 
 def try_close(data):
     record, answer = close(record_of(data), data["p"])
+    return answer, record == record_of(data)
+
+
+def opening_in(data):
+    """What a renewal brings beside its record."""
+    return {name: data[name] for name in ("W", "g", "a", "marks", "G") if name in data}
+
+
+def renewal_of(data):
+    return renew(record_of(data), **opening_in(data))
+
+
+def try_renew(data):
+    record, answer = renewal_of(data)
     return answer, record == record_of(data)
 
 
@@ -138,6 +153,8 @@ ENTRIES = {
     "outside_cases": (try_outside, {9, 10, 11, 12, 13, 21, 22, 29}, 300, 20_000),
     "quarter_cases": (try_quarter, {9, 13, 19, 23, 24}, 300, 20_000),
     "close_cases": (try_close, {9, 13, 19, 21, 22, 23, 24}, 300, 20_000),
+    "renew_cases": (try_renew, {9, 10, 11, 13, 19, 21, 22}, 300, 20_000),
+    "renew_outside_cases": (try_renew, {9, 10, 11, 13, 19, 21, 22, 29}, 200, 10_000),
     "year_cases": (try_year, {9, 13, 19, 21, 22, 23, 24, 28}, 200, 10_000),
     "total_cases": (try_total, {14}, 300, 20_000),
     "sample_cases": (try_share, {31}, 300, 20_000),
@@ -200,15 +217,15 @@ def test_generators_repeat(t):
         t.check([case.data for case in first] != [case.data for case in other], f"{name}: seeds differ")
 
 
-WIDE = {"turnovers", "previous_rest", "out_weights", "W", "weights", "index", "indices", "count", "interviews", "strengths", "minima", "amounts", "figures"}
-WIDE_START = ("open_cases", "outside_cases", "chain_cases", "outside_chain_cases", "year_chain_cases", "load_cases")
+WIDE = {"turnovers", "previous_rest", "out_weights", "W", "weights", "index", "closes", "links", "indices", "count", "interviews", "strengths", "minima", "amounts", "figures"}
+WIDE_START = ("open_cases", "outside_cases", "chain_cases", "outside_chain_cases", "year_chain_cases", "panels_cases", "load_cases")
 
 
 def widest(data, name):
     """The largest number of an argument that must fit a machine word."""
     value = data[name]
     if name == "calls":
-        lists = [q for kind, p in value for q in (p if kind == "year" else [p])]
+        lists = [q for kind, p in value for q in (p if kind == "year" else [p["a"]] if kind == "renew" else [p])]
         return max((p for relatives in lists for p in relatives), default=0)
     if isinstance(value, (list, bytes)):
         return max(value, default=0)
@@ -485,7 +502,7 @@ def test_open_laws(t):
             continue
         W, g, a = case.data["W"], case.data["g"], case.data["a"]
         record = open_chain(**case.data)
-        t.check((record.units, record.index, record.closes) == (len(W), case.data["start"], 0), "head", case)
+        t.check((record.units, record.index, record.closes, record.links) == (len(W), case.data["start"], 0, 0), "head", case)
         t.check(len(record.weights) == 100 and not any(record.weights[len(W) :]), "0 beyond the units", case)
         for i in range(len(W)):
             u = math.floor(Fraction(W[i] * g[i], 10_000))
@@ -528,7 +545,7 @@ def law_of_calls(t, case):
     F = math.floor(Fraction(record.index * L, 100_000_000))
     t.check(said == Figure(F) and held == record, "a quarter answers F and leaves the record", case)
     t.check(answer == Figure(F), "a close answers the same F", case)
-    t.check((after.units, after.index, after.closes) == (len(p), F, record.closes + 1), "head", case)
+    t.check((after.units, after.index, after.closes, after.links) == (len(p), F, record.closes + 1, record.links + 1), "head", case)
     t.check(after.weights[len(p) :] == record.weights[len(p) :], "places beyond the units stay", case)
     for i, relative in enumerate(p):
         v = math.floor(record.weights[i] * Fraction(relative, 100_000))
@@ -539,6 +556,32 @@ def test_call_laws(t):
     for case in generate.close_cases(t.seed, t.count(300, 10_000)):
         if case.intends == 0:
             law_of_calls(t, case)
+
+
+def test_renewal_laws(t):
+    """The opening at the record's C, but for its links; the record that a renewal leaves can be renewed again."""
+    for generator in (generate.renew_cases, generate.renew_outside_cases):
+        for case in generator(t.seed, t.count(300, 10_000)):
+            record, opening = record_of(case.data), opening_in(case.data)
+            after, answer = renew(record, **opening)
+            if not isinstance(answer, Renewed):
+                continue
+            new = (open_outside if "G" in opening else open_chain)(start=record.index, **opening)
+            t.check((after.units, after.weights, after.index, after.closes) == (new.units, new.weights, record.index, 0), "the opened record", case)
+            t.check(after.links == record.links, "the links go onward", case)
+            t.check(renew(after, **opening) == (after, Renewed()), "once more", case)
+
+
+def test_links(t):
+    """Document 02's worked records: 24 by links, a renewal at forty of them, 9 not by the record's length."""
+    record = Record(1, [2_000_000] + [0] * 99, 10**9, 0, 39)
+    record, answer = close(record, [110_000])
+    t.check((answer, record.closes, record.links) == (Figure(1_100_000_000), 1, 40), "the fortieth link", record)
+    t.check(close(record, [100_000])[1] == Refused(24), "the next close is 24", record)
+    record, answer = renew(Record(1, [2_000_000] + [0] * 99, 10**9, 40, 40), W=[1_000_000, 5_000_000], g=[10_000] * 2, a=[100_000] * 2)
+    t.check((answer, record.units, record.closes, record.links) == (Renewed(), 2, 0, 40), "a renewal at forty links", record)
+    t.check(quarter(record, [100_000] * 2)[1] == Refused(24), "then a quarter is 24", record)
+    t.check(quarter(record, [1] * 2)[1] == Refused(13), "and 13 before it", record)
 
 
 # A year
@@ -577,8 +620,9 @@ def test_year_laws(t):
 def single_calls(record, kind, p):
     """The calls that this one came to, each with the record after it and its answer: a year is its calls up to a refused one."""
     made = [("quarter", q) for q in p[:3]] + [("close", p[3])] if kind == "year" else [(kind, p)]
+    entries = {"close": close, "quarter": quarter, "renew": lambda held, opening: renew(held, **opening)}
     for name, relatives in made:
-        record, answer = (close if name == "close" else quarter)(record, relatives)
+        record, answer = entries[name](record, relatives)
         yield name, relatives, record, answer
         if isinstance(answer, Refused):
             return
@@ -587,9 +631,7 @@ def single_calls(record, kind, p):
 def opened_by(data):
     """The record of a chain's opening, with or without an outside share, and the exact side beside it."""
     opening = {name: value for name, value in data.items() if name != "calls"}
-    if "G" in data:
-        return open_outside(**opening), OutsideDirect(**opening)
-    return open_chain(**opening), Direct(**opening)
+    return (open_outside if "G" in data else open_chain)(**opening), Course(**opening)
 
 
 def follow(t, case):
@@ -603,11 +645,14 @@ def follow(t, case):
                 t.check(after == record, "a refused call hands the record back", case)
                 yield answer, None, None
                 continue
-            yield answer, direct.D(relatives), direct.allowed()
             record = after
+            if name == "renew":
+                direct.renewed(relatives)
+                continue
+            yield answer, direct.D(relatives), direct.allowed()
             if name == "close":
                 direct.closed(relatives)
-                t.check(record.closes == direct.m - 1, "m counts the accepted closes", case)
+                t.check(record.links == direct.m - 1, "m counts the accepted closes of all panels", case)
 
 
 def test_demand_3(t):
@@ -652,6 +697,34 @@ def test_demand_3_outside(t):
     t.check(refusals >= {9, 13, 23, 24}, "the chains meet refusals of a call", refusals)
     t.check(steps == set(range(3, 43)), "figures at each count of closes", steps)
     t.check(figures > 5_000, "many figures", figures)
+
+
+def test_demand_3_through_panels(t):
+    """The same through several panels, with and without an outside share, and years among the calls."""
+    refusals, most, figures = set(), 0, 0
+    for case in generate.panels_cases(t.seed, t.count(1_000, 20_000)):
+        for answer, D, allowed in follow(t, case):
+            if D is None:
+                refusals.add(answer.number)
+                continue
+            t.check(within_bound(answer.F, D, allowed), f"F = {answer.F}, D = {D}, allowed = {allowed}", case)
+            most = max(most, allowed)
+            figures += 1
+    t.check(refusals == {9, 13, 21, 22, 23, 24}, "the lists meet each refusal of a call or renewal", refusals)
+    t.check(most == 80, "forty panels of one close each are allowed 80", most)
+    t.check(figures > 10_000, "many figures", figures)
+
+
+def test_worked_panels(t):
+    """Document 02's forty panels need the allowance of each, and a panel without a close has none."""
+    ends = {}
+    for case in islice(generate.panels_cases(t.seed, 0), 2):
+        for answer, D, allowed in follow(t, case):
+            ends[case.what] = (answer.F, D, allowed)
+    F, D, allowed = ends["forty panels of one close"]
+    t.check((F, math.floor(100 * D), allowed) == (1_000_023_600, 100_007_199_571, 80), "F, D and the multiplier", (F, float(D), allowed))
+    t.check(within_bound(F, D, 80) and not within_bound(F, D, 41), "m + 1 alone does not cover it", (F, float(D)))
+    t.check(ends["a panel without a close"] == (1_260_000_000, 1_260_000_000, 4), "the multiplier 4", ends)
 
 
 # Both floors of the second weight lose nearly a millionth, and it moves apart from
@@ -883,8 +956,8 @@ def test_refused_and_figure_differ(t):
     """An answer is never mistaken for another kind with the same number."""
     t.check(Refused(13) != Figure(13) and Figure(13) != Total(13), "kinds differ")
     t.check(Drawn(1, 2) != (1, 2) and Refused(5) == Refused(5), "values agree")
-    t.check(Record(1, [0], 1, 0) != Record(1, [1], 1, 0), "records differ by a weight")
-    t.check(Record(1, [7], 1, 0) == Record(1, [7], 1, 0), "records agree by their values")
+    t.check(Record(1, [0], 1, 0, 0) != Record(1, [1], 1, 0, 0), "records differ by a weight")
+    t.check(Record(1, [7], 1, 0, 0) == Record(1, [7], 1, 0, 0), "records agree by their values")
 
 
 # Registers

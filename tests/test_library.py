@@ -6,8 +6,9 @@ import generate
 import library
 from cases.samples import WORKED
 from cases.years import LISTS
-from independent import Refused, chain, frame, load, outside, register, sample, sheet, stream, writing
-from independent.chain import Direct, Figure, Record, within_bound
+from independent import Refused, chain, frame, load, outside, panels, register, sample, sheet, stream, writing
+from independent.chain import Figure, Record, within_bound
+from independent.panels import Course, Renewed
 
 # Refusals that each entry has; each must be met many times.
 REFUSALS = {
@@ -21,6 +22,8 @@ REFUSALS = {
     "quarter_cases": {9, 13, 19, 23, 24},
     "close_cases": {9, 13, 19, 21, 22, 23, 24},
     "year_cases": {9, 13, 19, 21, 22, 23, 24, 28},
+    "renew_cases": {9, 10, 11, 13, 19, 21, 22},
+    "renew_outside_cases": {9, 10, 11, 13, 19, 21, 22, 29},
     "total_cases": {14},
     "load_cases": {33},
     "word_cases": {17},
@@ -68,7 +71,7 @@ def test_reference_cases(t):
     t.check((answer, buffer) == (frame.Rotated(101, 101_000, 1), [15, 2, 3]), "K6")
     t.check(panel_of(NUMBERS, TURNOVERS, RANDOMS, 3, 101_000)[1] == [11, 12, 13], "K6: the new panel")
     t.check(panel_of([1, 2, 3], [10] * 3, [500_000] * 3, 1, 0)[1] == [1], "K9")
-    record = Record(1, [10**6] + [0] * 99, 10**9, 0)
+    record = Record(1, [10**6] + [0] * 99, 10**9, 0, 0)
     t.check(library.quarter(record, [24_999])[1] == Refused(13), "K10: 24,999 is refused by 13")
     t.check(library.quarter(record, [25_000])[1] == Figure(250_000_000), "K10: 25,000 is taken")
     t.check(library.total([600_000, 400_000], [1_062_000_000, 10**9]) == chain.Total(1_037_200_000), "K11")
@@ -194,26 +197,41 @@ def test_open_outside(t):
     compared(t, "outside_cases", 600, 30_000, lambda d: library.open_outside(**d), lambda d: outside.open_outside(**d))
 
 
-def on_record(call):
+def on_record(call, *lists):
     def tried(data):
-        record = Record(data["units"], data["weights"], data["index"], data["closes"])
-        after, answer = call(record, data["p"])
+        record = Record(*(data[name] for name in ("units", "weights", "index", "closes", "links")))
+        after, answer = call(record, *(data[name] for name in lists))
         return answer, after
 
     return tried
 
 
 def test_quarter(t):
-    compared(t, "quarter_cases", 600, 30_000, on_record(library.quarter), on_record(chain.quarter))
+    compared(t, "quarter_cases", 600, 30_000, on_record(library.quarter, "p"), on_record(chain.quarter, "p"))
 
 
 def test_close(t):
-    compared(t, "close_cases", 600, 30_000, on_record(library.close), on_record(chain.close))
+    compared(t, "close_cases", 600, 30_000, on_record(library.close, "p"), on_record(chain.close, "p"))
+
+
+def on_renewal(renew):
+    def tried(data):
+        record = Record(*(data[name] for name in ("units", "weights", "index", "closes", "links")))
+        after, answer = renew(record, **{name: data[name] for name in ("W", "g", "a", "marks", "G") if name in data})
+        return answer, after
+
+    return tried
+
+
+def test_renew(t):
+    """Answer and every place of the lent record."""
+    compared(t, "renew_cases", 600, 30_000, on_renewal(library.renew), on_renewal(panels.renew))
+    compared(t, "renew_outside_cases", 400, 20_000, on_renewal(library.renew), on_renewal(panels.renew))
 
 
 def on_year(year):
     def tried(data):
-        record = Record(data["units"], data["weights"], data["index"], data["closes"])
+        record = Record(*(data[name] for name in ("units", "weights", "index", "closes", "links")))
         after, figures, answer = year(record, *(data[name] for name in LISTS), data["figures"])
         return answer, figures, after
 
@@ -225,8 +243,8 @@ def test_year(t):
 
 
 def test_year_record_list(t):
-    """A list that is shorter than 103 places is no record: 19, after 28; one place more stays."""
-    full = [1, 10**9, 0, 2 * 10**6] + [0] * 99
+    """A list that is shorter than 104 places is no record: 19, after 28; one place more stays."""
+    full = [1, 10**9, 0, 0, 2 * 10**6] + [0] * 99
     lists = [[101_000], [102_000], [103_000], [104_000]]
     for record, room, due in ((full[:-1], 3, 28), (full[:-1], 4, 19), (full, 3, 28)):
         answer, (after, *_, figures) = library.call("vougecress_year", record, *lists, [7] * room)
@@ -235,7 +253,7 @@ def test_year_record_list(t):
     answer, (after, *_, figures) = library.call("vougecress_year", full + [5], *lists, [7] * 6)
     t.check((answer.refusal, answer.count) == (0, 4), "an accepted year")
     t.check(figures == [1_010_000_000, 1_020_000_000, 1_030_000_000, 1_040_000_000, 7, 7], "its figures")
-    t.check(after[:4] == [1, 1_040_000_000, 1, 2_080_000] and after[-1] == 5, "its record, and a place beyond")
+    t.check(after[:5] == [1, 1_040_000_000, 1, 1, 2_080_000] and after[-1] == 5, "its record, and a place beyond")
 
 
 def test_total(t):
@@ -243,25 +261,32 @@ def test_total(t):
 
 
 def test_record_list(t):
-    """A record that is shorter than 103 places is none: 19, and 6 where open is to write it; one place more stays."""
-    full = [1, 10**9, 0, 10**6] + [0] * 99
+    """A record that is shorter than 104 places is none: 19, and 6 where open is to write it; one place more stays."""
+    full = [1, 10**9, 0, 0, 10**6] + [0] * 99
     answer, (after, _) = library.call("vougecress_close", full[:-1], [100_000])
     t.check((answer.refusal, answer.figure, after) == (19, 0, full[:-1]), "a record one place short is refused by 19")
     answer, _ = library.call("vougecress_quarter", full[:-1], [100_000])
     t.check((answer.refusal, answer.figure) == (19, 0), "a record one place short is refused by 19 at a quarter")
     answer, (after, _) = library.call("vougecress_close", full + [5], [200_000])
     t.check(answer.figure == 2 * 10**9 and after[-1] == 5, "a place beyond the record stays")
-    opening = ([10**6], [10_000], [100_000], 10**9)
-    for room, number in ((102, 6), (103, 0), (104, 0)):
+    lists = ([10**6], [10_000], [100_000])
+    for room, number in ((103, 19), (104, 0), (105, 0)):
+        before = (full + [5])[:room]
+        answer, (*_, after) = library.call("vougecress_renew", *lists, before)
+        t.check(answer == number and after == before, f"a renewal from a record of {room} places, here by the same record")
+        answer, (*_, after) = library.call("vougecress_renew_outside", *lists, [0], 0, before)
+        t.check(answer == number and after == before, "the same with an outside share that is not read")
+    opening = (*lists, 10**9)
+    for room, number in ((103, 6), (104, 0), (105, 0)):
         answer, (*_, after) = library.call("vougecress_open", *opening, [8] * room)
         t.check(answer == number, f"open with a record of {room} places")
-        t.check(after[103:] == [8] * (room - 103) if number == 0 else after == [8] * room, "open writes 103 places")
-    answer, (*_, after) = library.call("vougecress_open", [], [], [], 10**9, [8] * 102)
+        t.check(after[104:] == [8] * (room - 104) if number == 0 else after == [8] * room, "open writes 104 places")
+    answer, (*_, after) = library.call("vougecress_open", [], [], [], 10**9, [8] * 103)
     t.check(answer == 6, "6 is lower than 9")
-    for room, number in ((102, 6), (103, 0), (104, 0)):
+    for room, number in ((103, 6), (104, 0), (105, 0)):
         answer, (*_, after) = library.call("vougecress_open_outside", *opening, [1], 10_000, [8] * room)
         t.check(answer == number, f"open with an outside share and a record of {room} places")
-        t.check(after[103:] == [8] * (room - 103) if number == 0 else after == [8] * room, "it writes 103 places")
+        t.check(after[104:] == [8] * (room - 104) if number == 0 else after == [8] * room, "it writes 104 places")
 
 
 def test_chains(t):
@@ -276,6 +301,12 @@ def test_chains(t):
     t.check(longest == 40, "some chain reached forty closes", repeat=longest)
 
 
+def test_chains_with_years(t):
+    """Chains with years: digit by digit as the single calls, and every figure within the bound."""
+    figures = sum(follow(t, case)[0] for case in generate.year_chain_cases(t.seed, t.count(400, 5_000)))
+    t.check(figures > 1_000, "many figures were compared", repeat=figures)
+
+
 def test_outside_chains(t):
     """The same from openings with an outside share."""
     told = [follow(t, case) for case in generate.outside_chain_cases(t.seed, t.count(500, 10_000))]
@@ -283,18 +314,18 @@ def test_outside_chains(t):
     t.check(max(closes for _, closes in told) == 40, "some chain reached forty closes")
 
 
+def test_panels(t):
+    """The same through several panels, each with or without an outside share."""
+    ends = [follow(t, case) for case in generate.panels_cases(t.seed, t.count(800, 10_000))]
+    t.check(sum(figures for figures, _ in ends) > 1_000, "many figures were compared")
+    t.check(max(links for _, links in ends) == 40, "some chain reached forty links")
+
+
 def openings_of(data):
     """A chain's opening by the library and by the independent computation, and the exact side."""
     arguments = {name: value for name, value in data.items() if name != "calls"}
-    if "G" in data:
-        return library.open_outside(**arguments), outside.open_outside(**arguments), outside.OutsideDirect(**arguments)
-    return library.open_chain(**arguments), chain.open_chain(**arguments), Direct(**arguments)
-
-
-def test_chains_with_years(t):
-    """Chains with years: digit by digit as the single calls, and every figure within the bound."""
-    figures = sum(follow(t, case)[0] for case in generate.year_chain_cases(t.seed, t.count(400, 5_000)))
-    t.check(figures > 1_000, "many figures were compared", repeat=figures)
+    ours, theirs = (library.open_outside, outside.open_outside) if "G" in data else (library.open_chain, chain.open_chain)
+    return ours(**arguments), theirs(**arguments), Course(**arguments)
 
 
 def follow_year(t, case, ours, theirs, lists, exact):
@@ -314,8 +345,18 @@ def follow_year(t, case, ours, theirs, lists, exact):
     return after, theirs, len(made)
 
 
+def follow_renewal(t, case, ours, theirs, opening, exact):
+    """A renewal through the library beside the independent one; both records after it."""
+    ours, told = library.renew(ours, **opening)
+    theirs, expected = panels.renew(theirs, **opening)
+    t.check((told, ours) == (expected, theirs), "chain: a renewal and the record after it", repeat=case)
+    if isinstance(expected, Renewed):
+        exact.renewed(opening)
+    return ours, theirs
+
+
 def follow(t, case):
-    """One chain through the library beside the independent one; the count of figures and of closes."""
+    """One chain through the library beside the independent one; the count of figures and of links."""
     data = case.data
     ours, theirs, exact = openings_of(data)
     t.check(ours == theirs, "chain: the open", repeat=case)
@@ -327,6 +368,9 @@ def follow(t, case):
             ours, theirs, made = follow_year(t, case, ours, theirs, p, exact)
             figures += made
             continue
+        if name == "renew":
+            ours, theirs = follow_renewal(t, case, ours, theirs, p, exact)
+            continue
         ours, told = getattr(library, name)(ours, p)
         theirs, expected = getattr(chain, name)(theirs, p)
         t.check((told, ours) == (expected, theirs), f"chain: a {name} and the record after it", repeat=case)
@@ -335,7 +379,7 @@ def follow(t, case):
             t.check(within_bound(told.F, exact.D(p), exact.allowed()), "chain: the figure is within the bound", repeat=case)
             if name == "close":
                 exact.closed(p)
-    return figures, theirs.closes
+    return figures, theirs.links
 
 
 def what_is_read(command):

@@ -12,7 +12,7 @@ from pathlib import Path
 
 import generate
 import library
-from independent import Refused, chain, frame, load, outside, register, sample, sheet, stream, writing
+from independent import Refused, chain, frame, load, outside, panels, register, sample, sheet, stream, writing
 
 TOP = Path(__file__).resolve().parent.parent
 TEXT = (TOP / "docs" / "METHOD.md").read_text()
@@ -176,7 +176,7 @@ class PoissonRotate(Rotate):
 
 
 class Chain(Example):
-    """W, g, a (and marks, G) and `open START`, or units, v, C, closes and `record`; then `quarter` and `close` with their relatives, and `year` by its lists"""
+    """W, g, a (and marks, G) and `open START`, or units, v, C, closes (and links, if they are more) and `record`; then `quarter` and `close` with their relatives, `year` by its lists, or other W, g, a and `renew`"""
 
     record = None
     direct = None
@@ -192,40 +192,57 @@ class Chain(Example):
             self.call(word, numbers)
         elif word == "year":
             self.year()
+        elif word == "renew":
+            self.renew()
         else:
             super().take(line)
 
     def state(self):
         units = min(self.record.units, chain.PLACES)
-        return facts_of(v=self.record.weights[:units], C=self.record.index, closes=self.record.closes)
+        return facts_of(v=self.record.weights[:units], C=self.record.index, closes=self.record.closes, links=self.record.links)
 
     def open(self, start):
         W, g, a = self.lists("W", "g", "a")
-        answer, u, direct = self.opened(W, g, a, start)
+        answer, u, opening = self.opened(W, g, a, start)
         self.facts = facts_of(u=u)
         if isinstance(answer, Refused):
             self.answers(answer)
         else:
-            self.record, self.direct = answer, direct(W, g, a, start)
+            self.record, self.direct = answer, panels.Course(start, **opening)
             self.answers(answer, v=answer.weights[: answer.units])
-            self.facts += facts_of(e=self.direct.e) + self.state()
+            self.facts += facts_of(e=self.direct.panel.e) + self.state()
 
     def opened(self, W, g, a, start):
-        """The answer, the u, and what makes the exact side; with marks, by the opening with G."""
+        """The answer, the u, and what was brought; with marks, by the opening with G."""
         if "marks" not in self.given:
             answer = chain.open_chain(W, g, a, start)
             self.same(library.open_chain(W, g, a, start), answer)
-            return answer, [chain.domain_weight(W[i], g[i]) for i in range(len(W))], chain.Direct
+            return answer, [chain.domain_weight(W[i], g[i]) for i in range(len(W))], {"W": W, "g": g, "a": a}
         rest = self.given["marks"], self.one("G")
         answer = outside.open_outside(W, g, a, start, *rest)
         self.same(library.open_outside(W, g, a, start, *rest), answer)
         u = [] if isinstance(answer, Refused) else outside.shared_weights(W, g, *rest)
-        return answer, u, lambda *opening: outside.OutsideDirect(*opening, *rest)
+        return answer, u, {"W": W, "g": g, "a": a, "marks": rest[0], "G": rest[1]}
 
     def hand_in(self):
         v = self.given["v"]
-        self.record = chain.Record(self.one("units"), v + [0] * (chain.PLACES - len(v)), self.one("C"), self.one("closes"))
+        links = self.one("links") if "links" in self.given else self.one("closes")
+        self.record = chain.Record(self.one("units"), v + [0] * (chain.PLACES - len(v)), self.one("C"), self.one("closes"), links)
         self.direct = None
+
+    def renew(self):
+        opening = {name: self.given[name] for name in ("W", "g", "a")}
+        before = self.record
+        expected = panels.renew(before, **opening)
+        self.same(library.renew(before, **opening), expected)
+        self.record, answer = expected
+        if isinstance(answer, Refused):
+            self.answers(answer)
+        else:
+            self.answers(answer, v=self.record.weights[: self.record.units])
+            if self.direct is not None:
+                self.direct.renewed(opening)
+        self.facts = self.state()
 
     def call(self, word, p):
         before = self.record
@@ -263,7 +280,7 @@ class Chain(Example):
         self.t.check(chain.within_bound(F, D, allowed), f"{self.where}: F is within the bound", (F, D, m))
         if word == "close":
             self.direct.closed(p)
-        return facts_of(D=D, m=m, distance=10_000_000 * abs(F - D), bound=11 * allowed * D)
+        return facts_of(D=D, m=m, multiplier=allowed, distance=10_000_000 * abs(F - D), bound=11 * allowed * D)
 
 
 class Total(Example):
@@ -510,7 +527,12 @@ def test_commands(t):
 
 
 def record_of(data):
-    return chain.Record(data["units"], data["weights"], data["index"], data["closes"])
+    return chain.Record(*(data[name] for name in ("units", "weights", "index", "closes", "links")))
+
+
+def opening_of(data):
+    """What a renewal brings beside its record."""
+    return {name: data[name] for name in ("W", "g", "a", "marks", "G") if name in data}
 
 
 def number_of(answer):
@@ -532,6 +554,8 @@ ENTRIES = {
     "quarter": (generate.quarter_cases, lambda data: chain.quarter(record_of(data), data["p"])[1]),
     "close": (generate.close_cases, lambda data: chain.close(record_of(data), data["p"])[1]),
     "year": (generate.year_cases, lambda data: number_of(year_answer(data))),
+    "renew": (generate.renew_cases, lambda data: panels.renew(record_of(data), **opening_of(data))[1]),
+    "renew with G": (generate.renew_outside_cases, lambda data: panels.renew(record_of(data), **opening_of(data))[1]),
     "total": (generate.total_cases, lambda data: chain.total(**data)),
     "read": (generate.reader_cases, lambda data: stream.read_command(data["part"])[0]),
     "load": (generate.load_cases, lambda data: load.load(**data)[0]),
@@ -668,7 +692,7 @@ def test_refusals_in_the_text(t):
 def test_definitions_named(t):
     """Every single name in back quotes is a definition, but for the program's and those of the examples."""
     prose = re.sub(r"```.*?```", "", TEXT, flags=re.DOTALL)
-    names = set(re.findall(r"`(\w+)`", prose)) - {"chainrun", "distance", "bound"}
+    names = set(re.findall(r"`(\w+)`", prose)) - {"chainrun", "distance", "bound", "multiplier"}
     for name in sorted(names):
         defined = re.search(rf"^\s*(?:abbrev |unfoldable |pub |record )*{name}\s*[:(]", DEFINITIONS, re.MULTILINE)
         t.check(defined, f"METHOD.md: no definition is called {name}")

@@ -85,12 +85,12 @@ def test_k6(t):
 def test_k7_k8(t):
     opened = open_chain(*OPENING)
     direct = Direct(*OPENING)
-    t.check(opened == Record(3, OPENING[0] + [0] * 97, 10**9, 0), "open", opened)
+    t.check(opened == Record(3, OPENING[0] + [0] * 97, 10**9, 0, 0), "open", opened)
     t.check(direct.D(CLOSING) == 1_062_000_000, "D at the close", direct.D(CLOSING))
     closed, answer = close(opened, CLOSING)
     t.check(answer == Figure(1_062_000_000), "K7", answer)
     weights = [147_000_000, 29_400_000, 36_000_000] + [0] * 97
-    t.check(closed == Record(3, weights, 1_062_000_000, 1), "record after the close", closed)
+    t.check(closed == Record(3, weights, 1_062_000_000, 1, 1), "record after the close", closed)
     direct.closed(CLOSING)
     record, answer = quarter(closed, QUARTERLY)
     t.check(answer == Figure(1_063_799_994), "K8", answer)

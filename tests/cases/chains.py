@@ -178,11 +178,13 @@ def a_call(rng):
     units = rng.choice([3, 4, 9, 30, 99, 100])
     weights = [rng.choice([0, rng.randrange(10**7, 4 * 10**10)]) for _ in range(units)]
     weights[0], weights[1], weights[-1] = 10**9, 10**8, 0
+    closes = rng.choice([0, 1, 39, rng.randrange(40)])
     return {
         "units": units,
         "weights": weights + junk(rng, 100 - units, U64),
         "index": rng.randrange(4 * 10**8, 10**9),
-        "closes": rng.choice([0, 1, 39, rng.randrange(40)]),
+        "closes": closes,
+        "links": rng.choice([closes, 39, rng.randrange(closes, 40)]),
         "p": [rng.randrange(50_000, 200_001) if weight else 0 for weight in weights],
     }
 
@@ -246,8 +248,12 @@ RECORD_FAULTS = {
     "length 0": put("units", 0),
     "length 101": put("units", 101),
     "length 2^32 - 1": put("units", U32),
-    "41 closes": put("closes", 41),
-    "2^32 - 1 closes": put("closes", U32),
+    "41 closes, 41 links": lambda rng, data: data.update(closes=41, links=41),
+    "41 closes, 40 links": lambda rng, data: data.update(closes=41, links=40),
+    "2^64 - 1 closes": put("closes", U64),
+    "41 links": put("links", 41),
+    "2^64 - 1 links": put("links", U64),
+    "fewer links than closes": lambda rng, data: data.update(closes=3, links=2),
     "index 0": put("index", 0),
     "index 10^8 - 1": put("index", 10**8 - 1),
     "index 10^10 + 1": put("index", 10**10 + 1),
@@ -282,7 +288,10 @@ QUARTER_FAULTS = {
         "F below 10^8": index_leaves(10**8, 99_999),
         "F far below": index_leaves(10**8, 25_000),
     },
-    24: {"forty closes": put("closes", 40)},
+    24: {
+        "forty closes": lambda rng, data: data.update(closes=40, links=40),
+        "forty links, no close": lambda rng, data: data.update(closes=0, links=40),
+    },
 }
 
 CLOSING_FAULTS = {
@@ -301,7 +310,7 @@ CLOSE_FAULTS = {
 def a_small_call(rng):
     """The call that the limits start from: weights 10^9, 10^8 and absent; junk beyond."""
     weights = [10**9, 10**8, 0] + junk(rng, 97, U64)
-    return {"units": 3, "weights": weights, "index": 10**9, "closes": 3, "p": [100_000, 100_000, 0]}
+    return {"units": 3, "weights": weights, "index": 10**9, "closes": 3, "links": 5, "p": [100_000, 100_000, 0]}
 
 
 def weighing(data, weights, p, **changes):
@@ -312,15 +321,18 @@ def weighing(data, weights, p, **changes):
 
 
 def record_limits(rng):
-    """Both sides of each limit of 19. Inside forty closes 24 is due, beyond them 19."""
+    """Both sides of each limit of 19. Inside forty links 24 is due, beyond them 19."""
     base = a_small_call(rng)
     hundred = weighing(base, [10**7] * 100, [100_000] * 100)
     full_up = [10**13 - 10**8, 10**8, 0]
     return [
         ("length 1", (0, weighing(base, [10**7], [100_000])), (19, changed(base, units=0))),
         ("length 100", (0, hundred), (19, changed(hundred, units=101))),
-        ("39 and 40 closes", (0, changed(base, closes=39)), (24, changed(base, closes=40))),
-        ("40 and 41 closes", (24, changed(base, closes=40)), (19, changed(base, closes=41))),
+        ("39 and 40 closes", (0, changed(base, closes=39, links=39)), (24, changed(base, closes=40, links=40))),
+        ("40 and 41 closes", (24, changed(base, closes=40, links=40)), (19, changed(base, closes=41, links=41))),
+        ("39 and 40 links", (0, changed(base, links=39)), (24, changed(base, links=40))),
+        ("40 and 41 links", (24, changed(base, links=40)), (19, changed(base, links=41))),
+        ("links as closes", (0, changed(base, closes=3, links=3)), (19, changed(base, closes=3, links=2))),
         ("index 10^8", (0, changed(base, index=10**8)), (19, changed(base, index=10**8 - 1))),
         ("index 10^10", (0, changed(base, index=10**10)), (19, changed(base, index=10**10 + 1))),
         ("v of 1,000,000", (0, weighing(base, [10**6], [100_000])), (19, weighing(base, [999_999], [100_000]))),
@@ -375,8 +387,8 @@ def closing_limits(rng):
         ),
         (
             "21 before 24",
-            (24, weighing(base, [10**9, 4_000_000], [100_000, 25_000], closes=40)),
-            (21, weighing(base, [10**9, 3_999_999], [100_000, 25_000], closes=40)),
+            (24, weighing(base, [10**9, 4_000_000], [100_000, 25_000], links=40)),
+            (21, weighing(base, [10**9, 3_999_999], [100_000, 25_000], links=40)),
         ),
     ]
 
@@ -387,7 +399,7 @@ def quarter_cases(rng, count):
     yield from limits_of(record_limits(rng) + call_limits(rng))
     yield 0, "N x 1,000 over 2^64", weighing(a_small_call(rng), [9_999_999_000_000, 1_000_000], [399_999, 25_000])
     for _, what, data in limits_of(closing_limits(rng)):
-        yield 24 if data["closes"] == 40 else 0, f"a quarter where {what} at a close", data
+        yield 24 if data["links"] == 40 else 0, f"a quarter where {what} at a close", data
     yield from faults_of(rng, a_call, QUARTER_FAULTS)
     for _ in range(count):
         yield 0, "random", a_call(rng)

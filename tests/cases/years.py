@@ -8,7 +8,7 @@ LISTS = ("first", "second", "third", "last")
 
 def as_year(rng, call, place, room=None):
     """A quarter's or close's case as the call at this place of a year; the others move nothing."""
-    data = {name: call[name] for name in ("units", "weights", "index", "closes")}
+    data = {name: call[name] for name in ("units", "weights", "index", "closes", "links")}
     still = [100_000 if weight else 0 for weight in call["weights"][: call["units"]]]
     for name in LISTS:
         data[name] = list(still)
@@ -49,7 +49,7 @@ def year_limits(rng):
         if place == 0:
             limits += record_limits(rng)
         if place == 3:
-            limits += [limit for limit in closing_limits(rng) if limit[1][1]["closes"] != 40]
+            limits += [limit for limit in closing_limits(rng) if limit[1][1]["links"] != 40]
         for what, (within, inside), (beyond, outside) in limits:
             yield f"call {place + 1}, {what}", (within, as_year(rng, inside, place)), (beyond, as_year(rng, outside, place))
 
@@ -57,8 +57,8 @@ def year_limits(rng):
 def worked_years():
     """The cases of document 02's reading: one unit with v of 2,000,000."""
 
-    def one(index, relatives, room=4, weight=2_000_000, closes=0):
-        data = {"units": 1, "weights": [weight] + [0] * 99, "index": index, "closes": closes, "figures": [7] * room}
+    def one(index, relatives, room=4, weight=2_000_000, closes=0, links=0):
+        data = {"units": 1, "weights": [weight] + [0] * 99, "index": index, "closes": closes, "links": max(closes, links), "figures": [7] * room}
         return data | dict(zip(LISTS, relatives))
 
     yield 13, "figures stay after a refusal", one(10**9, [[101_000], [102_000], [24_999], [104_000]])
@@ -70,6 +70,8 @@ def worked_years():
     yield 0, "the fortieth close", one(10**9, [[100_000]] * 3 + [[110_000]], closes=39)
     yield 24, "after forty closes", one(10**9, [[100_000]] * 4, closes=40)
     yield 13, "13 before 24", one(10**9, [[1]] + [[100_000]] * 3, closes=40)
+    yield 0, "the fortieth link, the first close of its panel", one(10**9, [[100_000]] * 3 + [[110_000]], links=39)
+    yield 24, "after forty links, no close of this panel", one(10**9, [[100_000]] * 4, links=40)
 
 
 def two_faults(rng):

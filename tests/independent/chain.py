@@ -15,18 +15,20 @@ MOST_WEIGHT = 10**13
 LOWEST_INDEX = 10**8
 HIGHEST_INDEX = 10**10
 MOST_CLOSES = 40
+MOST_LINKS = 40
 MOST_SECTORS = 64
 WHOLE_SECTOR_SHARE = 1_000_000
 
 
 @dataclass(frozen=True)
 class Record:
-    """A chain record as any caller may hand it in: `units` need not be 1 to 100."""
+    """A chain record as any caller may hand it in: `units` need not be 1 to 100. `links` are the accepted closes of all panels."""
 
     units: int
     weights: list
     index: int
     closes: int
+    links: int
 
 
 @dataclass(frozen=True)
@@ -108,7 +110,7 @@ def open_chain(W, g, a, start):
     if refusal is not None:
         return Refused(refusal)
     weights = [opening_weight(W[i], g[i], a[i]) for i in range(len(W))]
-    return Record(len(W), weights + [0] * (PLACES - len(W)), start, 0)
+    return Record(len(W), weights + [0] * (PLACES - len(W)), start, 0, 0)
 
 
 # Quarter and close
@@ -121,6 +123,8 @@ def breaks_a_limit(record):
     weights = record.weights[: record.units]
     return (
         record.closes > MOST_CLOSES
+        or record.links > MOST_LINKS
+        or record.links < record.closes
         or outside_index_range(record.index)
         or any(v != 0 and v < LEAST_WEIGHT for v in weights)
         or all(v == 0 for v in weights)
@@ -155,7 +159,7 @@ def call_refusal(record, p, closing):
             return 22
     if outside_index_range(figure(record, p)):
         return 23
-    if record.closes >= MOST_CLOSES:
+    if record.links >= MOST_LINKS:
         return 24
     return None
 
@@ -177,7 +181,7 @@ def close(record, p):
     # Places beyond `units` are no part of the list: they stay as they were.
     new = [updated_weight(record.weights[i], p[i]) for i in range(record.units)]
     weights = new + record.weights[record.units:]
-    return Record(record.units, weights, F, record.closes + 1), Figure(F)
+    return Record(record.units, weights, F, record.closes + 1, record.links + 1), Figure(F)
 
 
 # A year in one call (document 02, [6])

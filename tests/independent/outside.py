@@ -67,7 +67,7 @@ def open_outside(W, g, a, start, marks, G):
         return Refused(refusal)
     u = shared_weights(W, g, marks, G)
     v = [floor(Fraction(u[i] * a[i], 100_000)) for i in range(len(W))]
-    return Record(len(W), v + [0] * (PLACES - len(W)), start, 0)
+    return Record(len(W), v + [0] * (PLACES - len(W)), start, 0, 0)
 
 
 class OutsideDirect(Direct):

@@ -15,13 +15,14 @@ use Rattle.c_values.specs.Figures.{figureFrom, openingNumber}
 use Rattle.c_values.specs.Record.{recordList}
 use borrow.Rule.Slice.PartMut.{putMid}
 
--- three numbers and the weights over the first places
-pub laid : (e w : List ℕ) (a b c : ℕ) → 3 ≤ length e → length w ≡ mostPanel →
-    putMid 3 mostPanel (set (set (set e 0 a) 1 b) 2 c) w ≡ written 0 (a ∷ b ∷ c ∷ w) e
-laid [] w a b c h k = absurd (omega arith)
-laid (x ∷ []) w a b c h k = absurd (omega arith)
-laid (x ∷ y ∷ []) w a b c h k = absurd (omega arith)
-laid (x ∷ y ∷ z ∷ r) w a b c h k = ap (λ (n : ℕ). a ∷ b ∷ c ∷ (w ++ drop n r)) (sym k)
+-- four numbers and the weights over the first places
+pub laid : (e w : List ℕ) (a b c d : ℕ) → 4 ≤ length e → length w ≡ mostPanel →
+    putMid 4 mostPanel (set (set (set (set e 0 a) 1 b) 2 c) 3 d) w ≡ written 0 (a ∷ b ∷ c ∷ d ∷ w) e
+laid [] w a b c d h k = absurd (omega arith)
+laid (x ∷ []) w a b c d h k = absurd (omega arith)
+laid (x ∷ y ∷ []) w a b c d h k = absurd (omega arith)
+laid (x ∷ y ∷ z ∷ []) w a b c d h k = absurd (omega arith)
+laid (x ∷ y ∷ z ∷ t ∷ r) w a b c d h k = ap (λ (n : ℕ). a ∷ b ∷ c ∷ d ∷ (w ++ drop n r)) (sym k)
 
 -- the number that a figure carries is the call's refusal, and an opening's is the open's
 pub figure-number : (n f : ℕ) (r : Figure) → r ≡ figureFrom (judged n f) → r .refusal ≡ n

@@ -1,4 +1,4 @@
-// The chain record as a lent list: units, index and closes, and then its 100 weights.
+// The chain record as a lent list: units, index, closes and links, and then its 100 weights.
 use chain::Chain;
 use limits::MOST_PANEL;
 ghost use mathlib.Core.Path.{_≡_};
@@ -9,10 +9,10 @@ ghost use Rattle.chain.specs.Record.{recordOf};
 ghost use Rattle.c_values.specs.Record.{recordPlaces, recordIn, recordList};
 
 // Places of a record.
-pub const RECORD: usize = 103;
+pub const RECORD: usize = 104;
 
 // The places before the weights.
-pub const BEFORE: usize = 3;
+pub const BEFORE: usize = 4;
 
 // Lays a list over another of the same length.
 fn copy(from: &[u64], to: &mut [u64])
@@ -33,7 +33,7 @@ pub fn load(lent: &[u64]) -> Chain
 {
     let mut v = [0u64; MOST_PANEL];
     copy(&lent[BEFORE..RECORD], &mut v);
-    let numbers = chain_record::with(lent[0] as usize, lent[1], lent[2]);
+    let numbers = chain_record::with(lent[0] as usize, lent[1], lent[2], lent[3]);
     chain::of(v, numbers)
 }
 
@@ -46,6 +46,7 @@ fn store(chain: Chain, lent: &mut [u64])
     lent[0] = numbers.units as u64;
     lent[1] = numbers.index;
     lent[2] = numbers.closes;
+    lent[3] = numbers.links;
     let v = chain.weights;
     copy(&v, &mut lent[BEFORE..RECORD]);
 }

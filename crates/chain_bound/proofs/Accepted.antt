@@ -76,6 +76,7 @@ reached-length (Reached.present left r) = ap suc (reached-length r)
 -- What an accepted call tells of the record and the relatives.
 pub record Accepted (r : Chain) (ps : List ℕ) : Type 0 where
   pub weighted : 0 < sum (held r)
+  pub links : r .links < mostCloses
   pub few : r .closes < mostCloses
   pub long : length ps ≡ r .units
   pub fits : Fit lowestRelative (held r) ps
@@ -87,9 +88,11 @@ unfolding figureRefusal badIndex
 judged-call r ps full first last =
     let a = admitted r ps first in
     let p23 : _ = then-none _ _ last in
+    let links = leb-false _ _ (refuse-none _ 23 (p23 .1)) in
     record {
       weighted = a .sound .present;
-      few = leb-false _ _ (refuse-none _ 23 (p23 .1));
+      links = links;
+      few = omega (arith, links, a .sound .linked);
       long = a .long;
       fits = fit _ _ (a .long ∙ sym full) (a .relatives);
       high = within _ _ _ (refuse-none _ 22 (p23 .0)) .0;

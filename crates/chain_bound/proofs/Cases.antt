@@ -12,12 +12,12 @@ use Rattle.rules.specs.Tests.{_or_, outside}
 use Rattle.rules.specs.Refusals.{Judged, refuse, _then_}
 use Rattle.rules.specs.Lists.{sum, products, scaled, anyOf, anyPair}
 use Rattle.rules.specs.Chain.{Chain, Call, relatives, held, shared, badIndex, badRelative, badWeight, badUnits, badOpenLists, badBase, badShares, openInputRefusal, weightRefusal}
-use Rattle.rules.specs.Chain.{openRefusal, openRecord, openAnswer, link, figureAt, broken, callInputRefusal, figureRefusal, callRefusal, callAnswer, after}
+use Rattle.rules.specs.Chain.{openRefusal, openRecord, openAnswer, link, figureAt, badLinks, broken, callInputRefusal, figureRefusal, callRefusal, callAnswer, after}
 use Rattle.rules.specs.Panel.{plain, panelAnswer}
 use Rattle.rules.specs.Events.{Event, Made, eventOf, singles, events}
-use Rattle.rules.specs.Direct.{Direct, exactOpen, panelExact, exactMoved, directOpen, numerator, denominator, Within, AllWithin}
+use Rattle.rules.specs.Direct.{Direct, exactOpen, panelExact, exactMoved, directPanel, directOpen, numerator, denominator, Within, AllWithin}
 use Rattle.rules.proofs.Tests.{never}
-use Rattle.chain_bound.specs.Sentence.{closesIn, directTop, directBottom}
+use Rattle.chain_bound.specs.Sentence.{closesIn, panelTop, panelBottom}
 use Rattle.chain_bound.proofs.Demand3.{demand3-calls}
 
 -- ---- the listing: each relative ten times document 01's ([5]): 100,000 each, open at 1,000,000,000, 105,000, 98,000, 120,000, close, …, quarter
@@ -91,7 +91,7 @@ pub record Answered : Type 0 where
 
 pub answered : Answered
 unfolding _or_ outside refuse _then_ sum products scaled anyOf anyPair held badIndex badRelative badWeight badUnits badOpenLists badBase badShares
-    openInputRefusal weightRefusal openRefusal openRecord openAnswer link figureAt broken callInputRefusal figureRefusal callRefusal callAnswer after singles
+    openInputRefusal weightRefusal openRefusal openRecord openAnswer link figureAt badLinks broken callInputRefusal figureRefusal callRefusal callAnswer after singles
 answered =
     record {
       listing-opens = refl;
@@ -115,7 +115,7 @@ es = products (products ws wholes) ones
 abbrev closed : List (List ℕ)
 closed = closesIn (Event.answered firstClose 1062000000 ∷ [])
 
-pub listing-direct : directTop es start closed (relatives lastQuarter) ≡ 1063800000 * directBottom es closed
+pub listing-direct : panelTop es start closed (relatives lastQuarter) ≡ 1063800000 * panelBottom es closed
 unfolding sum products
 listing-direct = refl
 
@@ -128,17 +128,17 @@ refused-changes-nothing r call list n e = rw e
 -- ---- what the bound rules out
 -- the bound cannot have m for m + 1
 pub low-needs-m-plus-one : Within 1001198920 (numerator lowDirect apart) (denominator lowDirect apart) (lowDirect .m) → ⊥
-unfolding sum products exactOpen panelExact exactMoved directOpen numerator denominator
+unfolding sum products exactOpen panelExact exactMoved directPanel numerator denominator
 low-needs-m-plus-one w = never _ _ refl (w .notBelow)
 
 -- "keeping old weights at close gives 1,063,593,000 in the last line"
 pub old-weights-fall : AllWithin direct₀ (Event.answered firstClose 1062000000 ∷ Event.answered lastQuarter 1063593000 ∷ []) → ⊥
-unfolding sum products exactOpen panelExact exactMoved directOpen numerator denominator
+unfolding sum products exactOpen panelExact exactMoved directPanel numerator denominator
 old-weights-fall w = never _ _ refl (w .1 .0 .notBelow)
 
 -- one figure for every call
 pub fixed-figure-falls : (f : ℕ) → AllWithin direct₀ (Event.answered firstClose f ∷ Event.answered lastQuarter f ∷ []) → ⊥
-unfolding sum products exactOpen panelExact exactMoved directOpen numerator denominator
+unfolding sum products exactOpen panelExact exactMoved directPanel numerator denominator
 fixed-figure-falls f w = go (decLe f 1063000000)
   where
     go : Dec (f ≤ 1063000000) → ⊥
@@ -148,7 +148,7 @@ fixed-figure-falls f w = go (decLe f 1063000000)
 -- the program whose second close does not move its record
 pub stopped-closes-fall : AllWithin direct₀ (eventOf firstClose (callAnswer record₀ firstClose) ∷ eventOf secondClose (callAnswer record₁ secondClose)
     ∷ eventOf lastQuarter (callAnswer record₁ lastQuarter) ∷ []) → ⊥
-unfolding sum products exactOpen panelExact exactMoved directOpen numerator denominator
+unfolding sum products exactOpen panelExact exactMoved directPanel numerator denominator
 stopped-closes-fall w = never _ _ refl ((rw (answered .stopped-events) at w) .1 .1 .0 .notBelow)
 
 -- A chain that only refuses has no figure to bound: it meets demand 3, and falls by demand 2, since its answers are not the defined ones.

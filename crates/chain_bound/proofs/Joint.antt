@@ -1,4 +1,4 @@
--- From the contracts of quarter, close and year to `Met`: what a caller reads off an answer is what the definitions say that the call came to.
+-- From the contracts of quarter, close, year and renewal to `Met`: what a caller reads off an answer is what the definitions say that the call came to.
 use mathlib.Core.Path.{_≡_, refl, ap}
 use Prim.Native.Nat.{ℕ, zero, suc}
 use mathlib.Core.List.{List, [], _∷_}
@@ -7,13 +7,20 @@ use lib.Seq.{take-at}
 use Rattle.rules.specs.Refusals.{Judged, _then_, judged, stays}
 use Rattle.rules.specs.Chain.{Chain, Call, relatives, figureOf, callRefusal, callAnswer, after}
 use Rattle.rules.specs.Year.{fourCalls, stopsBy, figuresOf, upTo, roomRefusal, yearRefusal, yearFigures, yearCalls, Year, yearOf}
-use Rattle.rules.specs.Events.{Event, Made, eventOf, singles}
+use Rattle.rules.specs.Panel.{Panel}
+use Rattle.rules.specs.Renewal.{renewalAnswer, renewalAfter}
+use Rattle.rules.specs.Events.{Event, Made, eventOf, renewalEvent, singles}
 use Rattle.chain_bound.specs.Trace.{Met, told, yearTold}
 
 -- a quarter or a close
 pub call-met : (r s : Chain) (call : Call) (a : Judged ℕ) → a ≡ callAnswer r call → s ≡ after r call → Met r (Made.call call) (eventOf call a ∷ []) s
 unfolding singles
 call-met r s call a answers left = record { answers = ap (λ (b : Judged ℕ). eventOf call b ∷ []) answers; left = left }
+
+-- a renewal
+pub renewal-met : (r s : Chain) (p : Panel) (a : Judged Chain) → a ≡ renewalAnswer r p → s ≡ renewalAfter r p →
+    Met r (Made.renewal p) (renewalEvent p a ∷ []) s
+renewal-met r s p a answers left = record { answers = ap (λ (b : Judged Chain). renewalEvent p b ∷ []) answers; left = left }
 
 -- calls up to a refused one: a figure for each that is accepted, and the number that stops them
 told-singles : (calls : List Call) (r : Chain) → told calls (stopsBy r calls) (figuresOf r calls) ≡ singles r (upTo r calls)

@@ -10,6 +10,7 @@ use lib.Seq.{take-at}
 use Rattle.rules.specs.Limits.{relativeScale, linkScale, leastWeight, lowestIndex, mostCloses}
 use Rattle.rules.specs.Lists.{sum, products}
 use Rattle.rules.specs.Chain.{Chain, Call, held, opening, openRecord, link, figureAt, figureOf, moved, accepted}
+use Rattle.rules.specs.Renewal.{withLinks}
 use Rattle.rules.specs.Direct.{Exact, exactOpen, exactMoved, meanTop, meanBottom}
 use Rattle.chain_bound.specs.Losses.{parts, weightLoss, leastLink, linkLoss, indexLoss, figureLoss, floors, settledFloors, mostFloors}
 use Rattle.chain_bound.proofs.Near.{Near, exactly, times}
@@ -42,6 +43,20 @@ pub record Beside (floored : ℕ) (x : Exact) (from : ℕ) (r : Chain) : Type 0 
   pub begun : 0 < from
   pub scalePositive : 0 < x .scale
   pub totalScalePositive : 0 < x .totalScale
+
+-- it does not look at the links
+pub relinked : {floored from : ℕ} {x : Exact} {r : Chain} (n : ℕ) → Beside floored x from r → Beside floored x from (withLinks n r)
+unfolding held
+relinked n b =
+    record {
+      tracks = b .tracks;
+      index = b .index;
+      settled = b .settled;
+      full = b .full;
+      begun = b .begun;
+      scalePositive = b .scalePositive;
+      totalScalePositive = b .totalScalePositive;
+    }
 
 -- ---- its opening
 module _ (us rs : List ℕ) (start : ℕ) (o : Opened us rs start) where

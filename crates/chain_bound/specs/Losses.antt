@@ -47,6 +47,6 @@ abbrev pub settledFloors : ℕ → ℕ → ℕ
 settledFloors opening zero = 0
 settledFloors opening (suc closes) = floors opening closes
 
--- The bound is derived for weights that were floored at most so many times; an open and forty closes stay far below.
+-- The bound is derived for weights that were floored at most so many times; forty closes, of forty panels or of one, stay far below.
 abbrev pub mostFloors : ℕ
 mostFloors = 1000

@@ -1,4 +1,4 @@
--- The joint between demand 3 and the contracts of quarter, close and year: a list of calls as a program answers it.
+-- The joint between demand 3 and the contracts of quarter, close, year and renewal: a list of calls as a program answers it.
 use Prim.Native.Nat.{ℕ, zero, suc}
 use mathlib.Core.Path.{_≡_}
 use mathlib.Core.List.{List, [], _∷_, _++_}

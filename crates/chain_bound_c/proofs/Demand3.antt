@@ -1,9 +1,9 @@
--- Demand 3 for a program in C: whatever vougecress_quarter, vougecress_close and vougecress_year calls follow a vougecress_open or
--- vougecress_open_outside that answers 0, on the
--- same lent record, each comes to what document 01's rules give from the opened record on, and every figure is within the bound of the exact direct index.
+-- Demand 3 for a program in C: whatever vougecress_quarter, vougecress_close, vougecress_year, vougecress_renew and vougecress_renew_outside calls follow a
+-- vougecress_open or vougecress_open_outside that answers 0, on the same lent record, each comes to what the rules give from the opened record on, and every
+-- figure is within the bound of the exact direct index.
 -- The record that a call leaves in the list is the one that the next call reads there (`Records`); the rest is `chain_bound`.
 use mathlib.Core.Path.{_≡_, refl, sym, ap, subst, _∙_}
-use mathlib.Core.List.{List}
+use mathlib.Core.List.{List, [], _∷_}
 use Prim.Native.Nat.{ℕ, zero, suc, _≤_}
 use contract.Lifetimes.{Lfts}
 use denote.Ref.{RefT, now}
@@ -14,12 +14,13 @@ use Rattle.rules.specs.Chain.{Chain, Call, callRefusal, callAnswer, figureOf, r
 use Rattle.rules.specs.Panel.{Panel, panelRefusal, panelRecord, panelAnswer}
 use Rattle.rules.specs.Year as rules
 use Rattle.rules.specs.Year.{fourCalls, afterAll, yearRefusal, yearAfter, yearOf}
-use Rattle.rules.specs.Events.{Event, Made, events}
+use Rattle.rules.specs.Renewal.{renewalRefusal, renewedRecord, renewalAnswer, renewalAfter}
+use Rattle.rules.specs.Events.{Event, Made, renewalEvent, events}
 use Rattle.rules.specs.Direct.{directOpen, AllWithin}
 use Rattle.rules.proofs.Refusals.{then-none, then-goes, judged-given}
 use Rattle.rules.proofs.Years.{quarter-keeps}
-use Rattle.chain_bound.specs.Trace.{Trace}
-use Rattle.chain_bound.proofs.Joint.{call-met, year-met}
+use Rattle.chain_bound.specs.Trace.{Met, Trace}
+use Rattle.chain_bound.proofs.Joint.{call-met, renewal-met, year-met}
 use Rattle.chain_bound.proofs.Demand3.{demand3-trace}
 use Rattle.c_values.specs.declared.Figure.{Figure}
 use Rattle.c_values.specs.Figures.{figureFrom}
@@ -32,10 +33,13 @@ use Rattle.c_chain.proofs.records.vougecress_close.Reads as close-reads
 use Rattle.c_year.specs.declared.Year.{Year}
 use Rattle.c_year.specs.Year.{lentRecord, lentYear, yearAnswer, yearList}
 use Rattle.c_year.proofs.vougecress_year.Reads as year-reads
-use Rattle.chain_bound_c.specs.Lent.{PanelOpened, CallsMade}
-use Rattle.chain_bound_c.proofs.Records.{Full, read-back, room-again, left-in, full-in, full-open, full-after, full-all}
+use Rattle.c_renew.specs.Record.{renewedNumber, renewedList}
+use Rattle.c_renew.proofs.renewal.vougecress_renew.Reads as renew-reads
+use Rattle.c_renew.proofs.outside.vougecress_renew_outside.Reads as renew-outside-reads
+use Rattle.chain_bound_c.specs.Lent.{PanelOpened, PanelRenewed, renewalIn, CallsMade}
+use Rattle.chain_bound_c.proofs.Records.{Full, read-back, room-again, left-in, full-in, full-open, full-after, full-all, full-renewed}
 
--- None of the four asks anything of its caller: every list of calls can be made.
+-- None of the seven asks anything of its caller: every list of calls can be made.
 pub open-asks : (κs : Lfts 4) (w g a lent : RefT (List ℕ)) (start : ℕ) → open-reads.Asked κs (w, (g, (a, (start, (lent, tt)))))
 open-asks κs w g a lent start = tt
 
@@ -51,6 +55,13 @@ close-asks κs lent p = tt
 
 pub year-asks : (κs : Lfts 6) (lent q₁ q₂ q₃ p buffer : RefT (List ℕ)) → year-reads.Asked κs (lent, (q₁, (q₂, (q₃, (p, (buffer, tt))))))
 year-asks κs lent q₁ q₂ q₃ p buffer = tt
+
+pub renew-asks : (κs : Lfts 4) (w g a lent : RefT (List ℕ)) → renew-reads.Asked κs (w, (g, (a, (lent, tt))))
+renew-asks κs w g a lent = tt
+
+pub renew-outside-asks : (κs : Lfts 5) (w g a sampled lent : RefT (List ℕ)) (domain : ℕ) →
+    renew-outside-reads.Asked κs (w, (g, (a, (sampled, (domain, (lent, tt))))))
+renew-outside-asks κs w g a sampled lent domain = tt
 
 -- a figure holds the answer that it was made of
 judged-in : (n f : ℕ) → judged (figureFrom (judged n f) .refusal) (figureFrom (judged n f) .figure) ≡ judged n f
@@ -111,6 +122,46 @@ year-from : (y : rules.Year) (n k : ℕ) (s : Chain) (fs : List ℕ) → n ≡ y
     record { refusal = n; count = k; chain = s; figures = fs } ≡ y
 year-from y n k s fs a b c d = rw (a, b, c, d)
 
+-- ---- a renewal on it
+-- What the contract of either renewal says.
+record Renewed (p : Panel) (n : ℕ) (xs ys : List ℕ) : Type 0 where
+  number : n ≡ renewedNumber p xs
+  list : ys ≡ renewedList p xs
+
+renewed : {p : Panel} {n : ℕ} {xs ys : List ℕ} → PanelRenewed xs p n ys → Renewed p n xs ys
+renewed {p = p} (PanelRenewed.without made) =
+    record {
+      number = made .learnt .0 ∙ ap (renewedNumber p) (made .holds);
+      list = sym (made .leaves) ∙ made .learnt .1 ∙ ap (renewedList p) (made .holds);
+    }
+renewed {p = p} (PanelRenewed.outside made) =
+    record {
+      number = made .learnt .0 ∙ ap (renewedNumber p) (made .holds);
+      list = sym (made .leaves) ∙ made .learnt .1 ∙ ap (renewedList p) (made .holds);
+    }
+
+-- a caller reads what it came to off the number
+event-in : (p : Panel) (n : ℕ) (next : Chain) → renewalIn p n ≡ renewalEvent p (judged n next)
+event-in p zero next = refl
+event-in p (suc n) next = refl
+
+module _ (xs : List ℕ) (room : recordPlaces ≤ length xs) (p : Panel) where
+  number-in : renewedNumber p xs ≡ renewalRefusal (recordIn xs) p
+  unfolding renewedNumber refuse
+  number-in = rw (le-ltb (length xs) recordPlaces room) (then-goes 0 _ refl)
+
+  -- the list after it holds the record after it, and has room again
+  renewal-in : (n : ℕ) (ys : List ℕ) → Renewed p n xs ys →
+      Met (recordIn xs) (Made.renewal p) (renewalIn p n ∷ []) (recordIn ys) × (recordPlaces ≤ length ys)
+  unfolding renewedList renewalAnswer renewalAfter
+  renewal-in n ys m =
+      let r = recordIn xs in
+      let next = renewedRecord r p in
+      let left = left-in (renewalRefusal r p) xs next room (full-renewed r p (full-in xs room)) in
+      let laid = m .list ∙ ap (λ (k : ℕ). written k (recordList next) xs) number-in in
+      let came = ap (renewalIn p) (m .number ∙ number-in) ∙ event-in p (renewalRefusal r p) next in
+      (rw (came, laid) (renewal-met r _ p _ refl (left .0)), rw laid (left .1))
+
 -- calls on a lent record are a trace of the definitions
 trace : {xs : List ℕ} {list : List Made} {given : List Event} → recordPlaces ≤ length xs → CallsMade xs list given → Trace (recordIn xs) list given
 trace room CallsMade.done = Trace.done
@@ -135,6 +186,9 @@ trace room (CallsMade.year {xs = xs} {ys = ys} {fs = fs} {q₁ = q₁} {q₂ = q
     let came = year-from (yearOf (recordIn xs) calls (now buffer)) _ _ _ _ (ap (λ (y : Year). y .refusal) told ∙ ap (λ (y : rules.Year). y .refusal) same)
     (ap (λ (y : Year). y .count) told ∙ ap (λ (y : rules.Year). y .count) same) (next .0) (filled ∙ ap (λ (y : rules.Year). y .figures) same) in
     Trace.next (year-met (recordIn xs) (now q₁) (now q₂) (now q₃) (now p) (now buffer) _ came) (trace (next .1) rest)
+trace room (CallsMade.renewal {xs = xs} {ys = ys} {p = p} {n = n} m rest) =
+    let next = renewal-in xs room p n ys (renewed m) in
+    Trace.next (next .0) (trace (next .1) rest)
 
 -- What the contract of either open says where it answers 0: nothing was refused, and the list holds the opened record.
 record Laid (p : Panel) (start : ℕ) (xs ys : List ℕ) : Type 0 where

@@ -10,7 +10,9 @@ use Rattle.rules.specs.Refusals.{stays, written}
 use Rattle.rules.specs.Chain.{Chain, Call, held, opening, moved, openRecord, callRefusal, accepted, after}
 use Rattle.rules.specs.Panel.{Panel, panelShared, panelRefusal, panelRecord}
 use Rattle.rules.specs.Year.{afterAll}
+use Rattle.rules.specs.Renewal.{renewalRefusal, renewedRecord, renewalAfter}
 use Rattle.rules.proofs.Refusals.{then-none}
+use Rattle.rules.proofs.Renewals.{renewal-opens}
 use Rattle.rules.proofs.Chains.{admitted}
 use Rattle.chain_bound.proofs.Accepted.{closed-reached, reached-length}
 use Rattle.chain_bound.proofs.Shares.{shares-near}
@@ -22,7 +24,7 @@ Full r = length (r .weights) ≡ mostPanel
 -- The record survives the lent list: what an open or a close lays there is read back as it was.
 pub read-back : (r : Chain) (xs : List ℕ) → Full r → recordIn (written 0 (recordList r) xs) ≡ r
 read-back r xs full =
-    ap (λ (l : List ℕ). record { weights = l; units = r .units; index = r .index; closes = r .closes })
+    ap (λ (l : List ℕ). record { weights = l; units = r .units; index = r .index; closes = r .closes; links = r .links })
     (take-at (r .weights) _ mostPanel full)
 
 -- and the list has room for the next one
@@ -36,7 +38,7 @@ left-in zero xs next room full = (read-back next xs full, room-again next xs ful
 left-in (suc n) xs next room full = (refl, room)
 
 pub full-in : (xs : List ℕ) → recordPlaces ≤ length xs → Full (recordIn xs)
-full-in xs long = length-take-le mostPanel (drop 3 xs) (omega (arith, long, length-drop 3 xs))
+full-in xs long = length-take-le mostPanel (drop 4 xs) (omega (arith, long, length-drop 4 xs))
 
 pub full-open : (p : Panel) (start : ℕ) → panelRefusal p start ≡ 0 → Full (panelRecord p start)
 unfolding openRecord
@@ -74,3 +76,11 @@ pub full-all : (calls : List Call) (r : Chain) → Full r → Full (afterAll r c
 unfolding afterAll
 full-all [] r full = full
 full-all (call ∷ calls) r full = full-all calls (after r call) (full-after r full call)
+
+pub full-renewed : (r : Chain) (p : Panel) → Full r → Full (renewalAfter r p)
+unfolding renewalAfter renewedRecord
+full-renewed r p full = go (renewalRefusal r p) refl
+  where
+    go : (n : ℕ) → renewalRefusal r p ≡ n → Full (stays n r (renewedRecord r p))
+    go zero e = full-open p (r .index) (renewal-opens r p e)
+    go (suc n) e = full

@@ -1,7 +1,8 @@
--- Document 01, demand 3, with document 02, [6] and [7], for a program in C: calls of `vougecress_open` or `vougecress_open_outside`, `vougecress_quarter`,
--- `vougecress_close` and `vougecress_year` on a lent record that nobody else writes, so that each call finds the list as the call before it left it. Of a call is known what Rattle lets its caller know: `Learnt` of the
--- module `Reads` that it makes of the function's own `ensures`.
-use Prim.Native.Nat.{ℕ}
+-- Document 01, demand 3, with document 02, [6], [7] and [11], for a program in C: calls of `vougecress_open` or `vougecress_open_outside`,
+-- `vougecress_quarter`, `vougecress_close`, `vougecress_year`, and `vougecress_renew` or `vougecress_renew_outside` on a lent record that nobody else writes,
+-- so that each call finds the list as the call before it left it. Of a call is known what Rattle lets its caller know: `Learnt` of the module `Reads` that
+-- it makes of the function's own `ensures`.
+use Prim.Native.Nat.{ℕ, zero, suc}
 use mathlib.Core.Path.{_≡_}
 use mathlib.Core.List.{List, [], _∷_, _++_}
 use lib.ListN.{length, take}
@@ -26,6 +27,10 @@ use Rattle.c_chain.proofs.records.vougecress_close.Reads as close-reads
 use Rattle.c_year.specs.declared.Year.{Year}
 use Rattle.c_year.proofs.vougecress_year as year-contract
 use Rattle.c_year.proofs.vougecress_year.Reads as year-reads
+use Rattle.c_renew.proofs.renewal.vougecress_renew as renew-contract
+use Rattle.c_renew.proofs.renewal.vougecress_renew.Reads as renew-reads
+use Rattle.c_renew.proofs.outside.vougecress_renew_outside as renew-outside-contract
+use Rattle.c_renew.proofs.outside.vougecress_renew_outside.Reads as renew-outside-reads
 
 -- `vougecress_open` of the lists w, g and a, of start and of the lent list returned n and left ys in the lent list; `now w` is what w holds.
 pub record OpenMade (w g a lent : RefT (List ℕ)) (start n : ℕ) (ys : List ℕ) : Type 0 where
@@ -74,6 +79,35 @@ pub record YearMade (xs : List ℕ) (q₁ q₂ q₃ p buffer : RefT (List ℕ)) 
   pub fills : now (end .1 .1 .1 .1 .1 .0) ≡ fs
   pub learnt : year-reads.Learnt lifetimes (lent, (q₁, (q₂, (q₃, (p, (buffer, tt)))))) r end
 
+-- `vougecress_renew` of the lists w, g and a and of a lent list that holds xs returned n and left ys in the lent list
+pub record RenewMade (xs : List ℕ) (w g a : RefT (List ℕ)) (n : ℕ) (ys : List ℕ) : Type 0 where
+  pub lifetimes : Lfts 4
+  pub lent : RefT (List ℕ)
+  pub holds : now lent ≡ xs
+  pub end : AtExit renew-contract.ended lifetimes
+  pub leaves : now (end .1 .1 .1 .0) ≡ ys
+  pub learnt : renew-reads.Learnt lifetimes (w, (g, (a, (lent, tt)))) n end
+
+-- `vougecress_renew_outside` of these, of the list `sampled` and of the outside share returned n and left ys in the lent list
+pub record RenewOutsideMade (xs : List ℕ) (w g a sampled : RefT (List ℕ)) (domain n : ℕ) (ys : List ℕ) : Type 0 where
+  pub lifetimes : Lfts 5
+  pub lent : RefT (List ℕ)
+  pub holds : now lent ≡ xs
+  pub end : AtExit renew-outside-contract.ended lifetimes
+  pub leaves : now (end .1 .1 .1 .1 .1 .0) ≡ ys
+  pub learnt : renew-outside-reads.Learnt lifetimes (w, (g, (a, (sampled, (domain, (lent, tt)))))) n end
+
+-- Either of the two, with the panel that it was handed.
+pub data PanelRenewed : List ℕ → Panel → ℕ → List ℕ → Type 0 where
+  without : {xs ys : List ℕ} {w g a : RefT (List ℕ)} {n : ℕ} → RenewMade xs w g a n ys → PanelRenewed xs (plain (now w) (now g) (now a)) n ys
+  outside : {xs ys : List ℕ} {w g a sampled : RefT (List ℕ)} {domain n : ℕ} →
+      RenewOutsideMade xs w g a sampled domain n ys → PanelRenewed xs (withDomain domain (now sampled) (now w) (now g) (now a)) n ys
+
+-- what a renewal came to, as a caller reads it off the number
+abbrev pub renewalIn : Panel → ℕ → Event
+renewalIn p zero = Event.renewed p
+renewalIn p (suc n) = Event.refused (suc n)
+
 -- what a call came to, as a caller reads it: a refusal other than 0, or the figure
 abbrev pub eventIn : Call → Figure → Event
 eventIn call f = eventOf call (judged (f .refusal) (f .figure))
@@ -93,3 +127,5 @@ pub data CallsMade : List ℕ → List Made → List Event → Type 0 where
       YearMade xs q₁ q₂ q₃ p buffer r ys fs → CallsMade ys list later →
       CallsMade xs (Made.year (length (now buffer)) (now q₁) (now q₂) (now q₃) (now p) ∷ list)
       (yearEvents buffer (fourCalls (now q₁) (now q₂) (now q₃) (now p)) r fs ++ later)
+  renewal : {xs ys : List ℕ} {p : Panel} {n : ℕ} {list : List Made} {later : List Event} →
+      PanelRenewed xs p n ys → CallsMade ys list later → CallsMade xs (Made.renewal p ∷ list) (renewalIn p n ∷ later)

@@ -27,6 +27,14 @@ use Rattle.chain_open.proofs.open_outside.Kinds as open-outside-kinds
 use Rattle.chain_open.proofs.open_outside.Reads as open-outside-reads
 use Rattle.chain_open.proofs.open_outside.Met as open-outside-theorem
 use Rattle.chain_open.proofs.open_outside.Symbol as open-outside-symbol
+use Rattle.chain_renew.proofs.renew.Kinds as renew-kinds
+use Rattle.chain_renew.proofs.renew.Reads as renew-reads
+use Rattle.chain_renew.proofs.renew.Met as renew-theorem
+use Rattle.chain_renew.proofs.renew.Symbol as renew-symbol
+use Rattle.chain_renew.proofs.renew_outside.Kinds as renew-outside-kinds
+use Rattle.chain_renew.proofs.renew_outside.Reads as renew-outside-reads
+use Rattle.chain_renew.proofs.renew_outside.Met as renew-outside-theorem
+use Rattle.chain_renew.proofs.renew_outside.Symbol as renew-outside-symbol
 use Rattle.chain_year.proofs.year.Statement as year-statement
 use Rattle.chain_year.proofs.year.Met as year-theorem
 
@@ -50,6 +58,15 @@ module _ (w : World) (γ : Env) where
   pub close-known : γ close-symbol.name ≡ close-symbol.routine →
       KnownBy 1 close-kinds.ps close-kinds.r close-reads.Asked close-reads.Learnt close-symbol.name
   close-known same = close-reads.known w γ close-symbol.name close-symbol.routine same (close-theorem.met (w .𝓤) (w .H) (w .𝓜) (w .𝓖) (w .𝓡))
+
+  pub renew-known : γ renew-symbol.name ≡ renew-symbol.routine →
+      KnownBy 3 renew-kinds.ps renew-kinds.r renew-reads.Asked renew-reads.Learnt renew-symbol.name
+  renew-known same = renew-reads.known w γ renew-symbol.name renew-symbol.routine same (renew-theorem.met (w .𝓤) (w .H) (w .𝓜) (w .𝓖) (w .𝓡))
+
+  pub renew-outside-known : γ renew-outside-symbol.name ≡ renew-outside-symbol.routine →
+      KnownBy 4 renew-outside-kinds.ps renew-outside-kinds.r renew-outside-reads.Asked renew-outside-reads.Learnt renew-outside-symbol.name
+  renew-outside-known same =
+      renew-outside-reads.known w γ renew-outside-symbol.name renew-outside-symbol.routine same (renew-outside-theorem.met (w .𝓤) (w .H) (w .𝓜) (w .𝓖) (w .𝓡))
 
 pub year-known : {M : Type 1} → year-statement.statement M
 year-known = year-theorem.met

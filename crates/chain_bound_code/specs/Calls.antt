@@ -1,6 +1,7 @@
--- Document 01, demand 3, with document 02, [6] and [7]: calls that a program makes of `chain_open::open` or `chain_open::open_outside`, `Chain::quarter`,
--- `Chain::close` and `chain_year::year`, each handed the record that the call before it handed back. Of a call is known what Rattle lets its caller know:
--- `Learnt` of the module `Reads` that it makes of the function's own `ensures`. No line here repeats a contract.
+-- Document 01, demand 3, with document 02, [6], [7] and [11]: calls that a program makes of `chain_open::open` or `chain_open::open_outside`,
+-- `Chain::quarter`, `Chain::close`, `chain_year::year`, and `chain_renew::renew` or `chain_renew::renew_outside`, each handed the record that the call
+-- before it handed back. Of a call is known what Rattle lets its caller know: `Learnt` of the module `Reads` that it makes of the function's own `ensures`.
+-- No line here repeats a contract.
 use Prim.Native.Nat.{ℕ}
 use mathlib.Core.Path.{_≡_}
 use mathlib.Core.List.{List, [], _∷_, _++_}
@@ -12,7 +13,7 @@ use Rattle.refusals.specs.Number.{verdictOf}
 use Rattle.rules.specs.Chain.{Call}
 use Rattle.rules.specs.Panel.{Panel, plain, withDomain}
 use Rattle.rules.specs.Year.{fourCalls}
-use Rattle.rules.specs.Events.{Event, Made, eventOf}
+use Rattle.rules.specs.Events.{Event, Made, eventOf, renewalEvent}
 use Rattle.chain_bound.specs.Trace.{yearTold}
 use Rattle.chain.specs.Record.{answerFrom}
 use Rattle.chain.specs.declared.Chain.{Chain}
@@ -21,6 +22,7 @@ use Rattle.chain.proofs.Chain.quarter as quarter-contract
 use Rattle.chain.proofs.Chain.quarter.Reads as quarter-reads
 use Rattle.chain.proofs.Chain.close as close-contract
 use Rattle.chain.proofs.Chain.close.Reads as close-reads
+use Rattle.chain_open.specs.Opened.{openingOf}
 use Rattle.chain_open.specs.declared.Opened.{Opened}
 use Rattle.chain_open.proofs.«open» as open-contract
 use Rattle.chain_open.proofs.«open».Reads as open-reads
@@ -28,6 +30,10 @@ use Rattle.chain_open.proofs.open_outside as open-outside-contract
 use Rattle.chain_open.proofs.open_outside.Reads as open-outside-reads
 use Rattle.chain_year.specs.declared.Came.{Came}
 use Rattle.chain_year.proofs.year as year-contract
+use Rattle.chain_renew.proofs.renew as renew-contract
+use Rattle.chain_renew.proofs.renew.Reads as renew-reads
+use Rattle.chain_renew.proofs.renew_outside as renew-outside-contract
+use Rattle.chain_renew.proofs.renew_outside.Reads as renew-outside-reads
 use Rattle.chain_bound_code.specs.YearReads as year-reads
 
 -- `chain_open::open` of the slices w, g and a and of start returned o; `now w` is what w holds.
@@ -47,6 +53,24 @@ pub data PanelOpened : Panel → ℕ → Opened → Type 0 where
   without : {w g a : RefT (List ℕ)} {start : ℕ} {o : Opened} → OpenMade w g a start o → PanelOpened (plain (now w) (now g) (now a)) start o
   outside : {w g a : RefT (List ℕ)} {start : ℕ} {marks : RefT (List ℕ)} {domain : ℕ} {o : Opened} →
       OpenOutsideMade w g a start marks domain o → PanelOpened (withDomain domain (now marks) (now w) (now g) (now a)) start o
+
+-- `chain_renew::renew` of c and the slices w, g and a returned o
+pub record RenewMade (c : Chain) (w g a : RefT (List ℕ)) (o : Opened) : Type 0 where
+  pub lifetimes : Lfts 3
+  pub end : AtExit renew-contract.ended lifetimes
+  pub learnt : renew-reads.Learnt lifetimes (c, (w, (g, (a, tt)))) o end
+
+-- `chain_renew::renew_outside` of these, of the marks and of the outside share returned o
+pub record RenewOutsideMade (c : Chain) (w g a marks : RefT (List ℕ)) (domain : ℕ) (o : Opened) : Type 0 where
+  pub lifetimes : Lfts 4
+  pub end : AtExit renew-outside-contract.ended lifetimes
+  pub learnt : renew-outside-reads.Learnt lifetimes (c, (w, (g, (a, (marks, (domain, tt)))))) o end
+
+-- Either of the two, with the panel that it was handed.
+pub data PanelRenewed : Chain → Panel → Opened → Type 0 where
+  without : {c : Chain} {w g a : RefT (List ℕ)} {o : Opened} → RenewMade c w g a o → PanelRenewed c (plain (now w) (now g) (now a)) o
+  outside : {c : Chain} {w g a marks : RefT (List ℕ)} {domain : ℕ} {o : Opened} →
+      RenewOutsideMade c w g a marks domain o → PanelRenewed c (withDomain domain (now marks) (now w) (now g) (now a)) o
 
 -- `Chain::quarter` of c and the slice p returned r
 pub record QuarterMade (c : Chain) (p : RefT (List ℕ)) (r : Answered) : Type 0 where
@@ -87,3 +111,5 @@ pub data CallsMade : Chain → List Made → List Event → Type 0 where
       YearMade c q₁ q₂ q₃ p buffer r d fs → CallsMade d list later →
       CallsMade c (Made.year (length (now buffer)) (now q₁) (now q₂) (now q₃) (now p) ∷ list)
       (yearEvents buffer (fourCalls (now q₁) (now q₂) (now q₃) (now p)) r fs ++ later)
+  renewal : {c : Chain} {p : Panel} {o : Opened} {list : List Made} {later : List Event} →
+      PanelRenewed c p o → CallsMade (o .chain) list later → CallsMade c (Made.renewal p ∷ list) (renewalEvent p (openingOf o) ∷ later)

@@ -20,8 +20,8 @@ opened-is us rs places start e = ap (λ (l : List ℕ). recordWith l (openedNumb
 -- the moved weights in the units' places, the others as they were, and the figure as the index
 pub closed-is : (r : Chain) (ps places : List ℕ) (f : ℕ) → places ≡ moved r ps ++ drop (r .units) (r .weights) → f ≡ figureOf r ps →
     recordWith places (closedNumbers (numbersOf r) f) ≡ accepted r (Call.close ps)
-closed-is r ps places f e h = rw (e, h, add-one)
+closed-is r ps places f e h = rw (e, h, add-one (r .closes), add-one (r .links))
 
--- a record that is not broken has few closes
+-- a record that is not broken has few closes and links
 pub countable : (places : List ℕ) (n : Numbers) → broken (recordWith places n) ≡ false → Countable n
-countable places n e = sound (recordWith places n) e .closes
+countable places n e = let s = sound (recordWith places n) e in (s .closes, s .links)

@@ -1,4 +1,4 @@
-// Document 01, "Chain record": what a record holds beside its places, the ways in which that comes about, and the limits 19 and 24. Crates above
+// Document 01, "Chain record", and document 02, [11]: what a record holds beside its places, how that comes about, and the limits 19 and 24. Crates above
 // make and judge a record by these functions, so that a further number is a matter of this crate, the definitions and the layout for C.
 use limits::MOST_CLOSES;
 use limits::MOST_WEIGHT;
@@ -7,39 +7,48 @@ use limits::bad_units;
 ghost use mathlib.Core.Path.{_≡_};
 ghost use lib.ListN.{length};
 ghost use Rattle.rules.specs.Limits.{mostPanel};
-ghost use Rattle.rules.specs.Chain.{broken};
-ghost use Rattle.chain_record.specs.Record.{Countable, recordWith, numbersWith, openedNumbers, closedNumbers, spentBy};
+ghost use Rattle.rules.specs.Chain.{badLinks, broken};
+ghost use Rattle.chain_record.specs.Record.{Countable, recordWith, numbersWith, openedNumbers, renewedNumbers, closedNumbers, spentBy};
 
 // A call lends the record's places and passes these by value, so that no call copies a record.
 pub struct Numbers {
     pub units: usize,
     pub index: u64,
     pub closes: u64,
+    pub links: u64,
 }
 
 // Whatever numbers these are.
-pub fn with(units: usize, index: u64, closes: u64) -> Numbers
-    ensures { λ r. ⌜ r ≡ numbersWith units index closes ⌝ }
+pub fn with(units: usize, index: u64, closes: u64, links: u64) -> Numbers
+    ensures { λ r. ⌜ r ≡ numbersWith units index closes links ⌝ }
 {
     Numbers {
         units: units,
         index: index,
         closes: closes,
+        links: links,
     }
 }
 
 // Those of a record that holds nothing.
 pub fn none() -> Numbers
-    ensures { λ r. ⌜ r ≡ numbersWith 0 0 0 ⌝ }
+    ensures { λ r. ⌜ r ≡ numbersWith 0 0 0 0 ⌝ }
 {
-    with(0, 0, 0)
+    with(0, 0, 0, 0)
 }
 
-// Those of a record that no close has moved.
+// Those of a first panel that no close has moved.
 pub fn opened(units: usize, start: u64) -> Numbers
     ensures { λ r. ⌜ r ≡ openedNumbers units start ⌝ }
 {
-    with(units, start, 0)
+    with(units, start, 0, 0)
+}
+
+// Those of a new panel that carries a chain on: the links made before it go onward.
+pub fn renewed(opened: Numbers, before: Numbers) -> Numbers
+    ensures { λ r. ⌜ r ≡ renewedNumbers opened before ⌝ }
+{
+    with(opened.units, opened.index, opened.closes, before.links)
 }
 
 // Those after one more close, with this figure.
@@ -48,7 +57,18 @@ pub fn closed(numbers: Numbers, figure: u64) -> Numbers
     ensures { λ r. ⌜ r ≡ closedNumbers numbers figure ⌝ }
 {
     let closes = numbers.closes + 1;
-    with(numbers.units, figure, closes)
+    let links = numbers.links + 1;
+    with(numbers.units, figure, closes, links)
+}
+
+// 19: whether these cannot be the closes of a panel and the links of its chain. More than forty closes are more than forty links, or more than the links.
+fn bad_links(closes: u64, links: u64) -> bool
+    ensures { λ r. ⌜ r ≡ badLinks closes links ⌝ }
+{
+    if MOST_CLOSES < links {
+        return true;
+    }
+    links < closes
 }
 
 // 19: whether the record breaks a limit. The number of units is judged before the places are looked at.
@@ -60,7 +80,7 @@ pub fn is_broken(places: &[u64], numbers: Numbers) -> bool
     if bad_units(units) {
         return true;
     }
-    if MOST_CLOSES < numbers.closes {
+    if bad_links(numbers.closes, numbers.links) {
         return true;
     }
     if bad_index(numbers.index) {
@@ -77,9 +97,9 @@ pub fn is_broken(places: &[u64], numbers: Numbers) -> bool
     MOST_WEIGHT < sum
 }
 
-// 24: whether the closes are spent.
+// 24: whether the links are spent.
 pub fn is_spent(numbers: Numbers) -> bool
     ensures { λ r. ⌜ r ≡ spentBy numbers ⌝ }
 {
-    MOST_CLOSES <= numbers.closes
+    MOST_CLOSES <= numbers.links
 }

@@ -11,7 +11,7 @@ use Rattle.rules.specs.Lists.{sum, products, scaled}
 use Rattle.rules.specs.Chain.{Chain, Call, after}
 use Rattle.rules.specs.Panel.{plain}
 use Rattle.rules.specs.Events.{Event, singles}
-use Rattle.rules.specs.Direct.{Direct, exactOpen, panelExact, exactMoved, directOpen, numerator, denominator, directAfter, allowed, Within, AllWithin}
+use Rattle.rules.specs.Direct.{Direct, exactOpen, panelExact, exactMoved, directPanel, directOpen, numerator, denominator, directAfter, allowed, Within, AllWithin}
 use Rattle.rules.proofs.Tests.{never}
 
 -- with D = 10,000,000 a figure may be off by 22 for two floors, by 33 for three
@@ -59,12 +59,12 @@ abbrev ones : List ℕ
 ones = relativeScale ∷ []
 
 pub moved-exactly : numerator unrounded ones * relativeScale ≡ 1000000000 * up * denominator unrounded ones
-unfolding directOpen panelExact exactOpen exactMoved numerator denominator sum products scaled
+unfolding directPanel panelExact exactOpen exactMoved numerator denominator sum products scaled
 moved-exactly = refl
 
 -- D's start index is a fraction: with 7 over 2, and a price that stands still, D is 3.5
 abbrev halved : Direct
-halved = record { top = 7; bottom = 2; exact = exactOpen (5 ∷ []) 1 ones; m = 1; extra = 1 }
+halved = record { top = 7; bottom = 2; exact = exactOpen (5 ∷ []) 1 ones; m = 1; extra = 1; closes = 0; left = 0 }
 
 pub start-divided : 2 * numerator halved ones ≡ 7 * denominator halved ones
 unfolding exactOpen exactMoved numerator denominator sum products
@@ -76,7 +76,7 @@ abbrev still : Direct
 still = directOpen (plain (1000000 ∷ []) (shareScale ∷ []) ones) 1000000000
 
 pub list-within : AllWithin still (Event.answered (Call.close ones) 1000002200 ∷ Event.answered (Call.quarter ones) 1000003300 ∷ [])
-unfolding directOpen panelExact exactOpen exactMoved numerator denominator sum products
+unfolding directPanel panelExact exactOpen exactMoved numerator denominator sum products
 list-within =
     let first : Within 1000002200 (numerator still ones) (denominator still ones) (allowed still) =
     record { defined = ltb-true _ _ refl; notAbove = leb-true _ _ refl; notBelow = leb-true _ _ refl } in
@@ -86,11 +86,11 @@ list-within =
     (first, (second, tt))
 
 pub first-outside : (rest : List Event) → AllWithin still (Event.answered (Call.close ones) 1000002201 ∷ rest) → ⊥
-unfolding directOpen panelExact exactOpen exactMoved numerator denominator sum products
+unfolding directPanel panelExact exactOpen exactMoved numerator denominator sum products
 first-outside rest all = never _ _ refl (all .0 .notAbove)
 
 pub second-outside : (f : ℕ) → AllWithin still (Event.answered (Call.close ones) f ∷ Event.answered (Call.quarter ones) 1000003301 ∷ []) → ⊥
-unfolding directOpen panelExact exactOpen exactMoved numerator denominator sum products
+unfolding directPanel panelExact exactOpen exactMoved numerator denominator sum products
 second-outside f all = never _ _ refl (all .1 .0 .notAbove)
 
 -- "A refused call has no D and changes nothing": the call after it is judged by the same weights and the same m
@@ -101,8 +101,8 @@ refused-passed d n f qs all = all .0
 -- a close "takes m as it stands", and the call after it the moved weights and one more
 pub close-counted : (d : Direct) (f h : ℕ) (ps qs : List ℕ) →
     AllWithin d (Event.answered (Call.close ps) f ∷ Event.answered (Call.quarter qs) h ∷ []) →
-    Within f (numerator d ps) (denominator d ps) (d .m + d .extra)
-    × Within h (numerator (directAfter d (Call.close ps)) qs) (denominator (directAfter d (Call.close ps)) qs) (suc (d .m) + d .extra)
+    Within f (numerator d ps) (denominator d ps) (d .m + (d .left + d .extra))
+    × Within h (numerator (directAfter d (Call.close ps)) qs) (denominator (directAfter d (Call.close ps)) qs) (suc (d .m) + (d .left + d .extra))
 close-counted d f h ps qs all = (all .0, all .1 .0)
 
 -- there is an event for each call

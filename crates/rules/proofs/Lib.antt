@@ -7,6 +7,7 @@ pub mod PanelCases
 pub mod Reference
 pub mod Border
 pub mod Years
+pub mod Renewals
 pub mod Leavers
 pub mod NoBirths
 pub mod Births

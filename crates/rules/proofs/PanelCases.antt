@@ -9,10 +9,10 @@ use Rattle.rules.specs.Tests.{_or_, outside}
 use Rattle.rules.specs.Refusals.{refuse, _then_}
 use Rattle.rules.specs.Lists.{sum, products, scaled, anyOf, anyPair}
 use Rattle.rules.specs.Chain.{Call, held, opening, badIndex, badRelative, badWeight, badUnits, badOpenLists, badBase, badShares, openInputRefusal, weightRefusal, openRefusal, openRecord, openAnswer}
-use Rattle.rules.specs.Chain.{link, figureAt, broken, callInputRefusal, figureRefusal, callRefusal, callAnswer, after}
+use Rattle.rules.specs.Chain.{link, figureAt, badLinks, broken, callInputRefusal, figureRefusal, callRefusal, callAnswer, after}
 use Rattle.rules.specs.Panel.{ofSampled, sampledSize, sampledBase, sampledShares, outsideWhole, eachUnit, outsideShared, badOutside, badInner, outsideInputRefusal, outsideRefusal, Panel, plain, withDomain, panelShared, panelRefusal, panelRecord, panelAnswer}
 use Rattle.rules.specs.Events.{Event, singles}
-use Rattle.rules.specs.Direct.{Direct, exactOpen, panelExact, exactMoved, directOpen, directAfter, numerator, denominator, allowed}
+use Rattle.rules.specs.Direct.{Direct, exactOpen, panelExact, exactMoved, directPanel, directOpen, directAfter, numerator, denominator, allowed}
 
 abbrev start : ℕ
 start = 1000000000
@@ -103,10 +103,11 @@ abbrev closedBy : Direct → List Call → Direct
 closedBy d [] = d
 closedBy d (call ∷ calls) = closedBy (directAfter d call) calls
 
-abbrev lastFigure : ℕ → List Event → ℕ
+abbrev pub lastFigure : ℕ → List Event → ℕ
 lastFigure f [] = f
 lastFigure f (Event.refused n ∷ rest) = lastFigure f rest
 lastFigure f (Event.answered call h ∷ rest) = lastFigure h rest
+lastFigure f (Event.renewed p ∷ rest) = lastFigure f rest
 
 abbrev hostileDirect : Direct
 hostileDirect = closedBy (directOpen hostile 400000000) closes
@@ -124,8 +125,8 @@ pub record Exacts : Type 0 where
   hostile-figure : lastFigure 0 (singles (panelRecord hostile 400000000) (closes ++ Call.quarter apart ∷ [])) ≡ 395389637
 
 pub exacts : Exacts
-unfolding _or_ outside refuse _then_ sum products scaled anyPair held badIndex badRelative badWeight badUnits weightRefusal openRecord link figureAt broken callInputRefusal figureRefusal
-    callRefusal callAnswer after singles ofSampled sampledSize sampledBase sampledShares outsideWhole eachUnit outsideShared exactOpen panelExact exactMoved directOpen numerator denominator
+unfolding _or_ outside refuse _then_ sum products scaled anyPair held badIndex badRelative badWeight badUnits weightRefusal openRecord link figureAt badLinks broken callInputRefusal figureRefusal
+    callRefusal callAnswer after singles ofSampled sampledSize sampledBase sampledShares outsideWhole eachUnit outsideShared exactOpen panelExact exactMoved directPanel numerator denominator
 exacts =
     record {
       sampled-allowed = refl;

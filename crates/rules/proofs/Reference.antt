@@ -13,9 +13,9 @@ use Rattle.rules.specs.TakeAll.{Frame, Taken, frame, moreTurnover, large
 use Rattle.rules.specs.Draw.{Drawn, shifted, keyNumerator, keyDenominator, fractionBelow, keyBelow, sampledBy, drawnBy, panelNumbers, panelWeights, badLists, badRandom, frameRefusal, drawRefusal, drawAnswer, drawNumbersBy, drawWeightsBy, drawNumbers, drawWeights}
 use Rattle.rules.specs.Order.{put, ordered}
 use Rattle.rules.specs.Rotation.{Rotated, born, oldMember, withinPrevious, joins, member, members, required, startAt, leaves, suffices, leastStep, leavers, shortLeavers, badOldPanel, badPrevious, badBirths, listsRefusal, rotationRefusal, rotationAnswerBy, rotationLeaversBy, rotationAnswer, rotationLeavers}
-use Rattle.rules.specs.Chain.{Chain, Call, held, badIndex, badRelative, badWeight, badUnits, badOpenLists, badBase, badShares, openInputRefusal, weightRefusal, openRefusal, openRecord, link, figureAt, broken, callInputRefusal, figureRefusal, callRefusal, callAnswer}
+use Rattle.rules.specs.Chain.{Chain, Call, held, badIndex, badRelative, badWeight, badUnits, badOpenLists, badBase, badShares, openInputRefusal, weightRefusal, openRefusal, openRecord, link, figureAt, badLinks, broken, callInputRefusal, figureRefusal, callRefusal, callAnswer}
 use Rattle.rules.specs.Panel.{plain}
-use Rattle.rules.specs.Direct.{Direct, exactOpen, panelExact, exactMoved, directOpen, directAfter, numerator, denominator}
+use Rattle.rules.specs.Direct.{Direct, exactOpen, panelExact, exactMoved, directPanel, directOpen, directAfter, numerator, denominator}
 use Rattle.rules.specs.Total.{badSectors, totalOf, totalAnswer}
 use Rattle.rules.specs.Stream.{bigEndian, operandsOf, widthOf, commandOf, readingRefusal, reading, restOf}
 use Rattle.rules.specs.Decimal.{digitsOn, decimalOn}
@@ -71,7 +71,7 @@ directA =
 
 -- a record of one unit, of which a quarter asks one relative
 abbrev oneUnit : Chain
-oneUnit = record { weights = 1000000 ∷ []; units = 1; index = 1000000000; closes = 0 }
+oneUnit = record { weights = 1000000 ∷ []; units = 1; index = 1000000000; closes = 0; links = 0 }
 
 -- an answer that is given: q, n and X of a take-all group; n and X of a draw; k, the new start and the leavers' count of a rotation
 abbrev taken : ℕ → ℕ → ℕ → Judged Taken
@@ -134,8 +134,8 @@ unfolding _or_ _and_ outside refuse _then_ sum products scaled anyOf anyPair ris
     shifted keyNumerator keyDenominator fractionBelow keyBelow sampledBy drawnBy panelNumbers panelWeights badLists badRandom frameRefusal drawRefusal drawAnswer drawNumbersBy drawWeightsBy
     oldMember withinPrevious joins member members required startAt leaves suffices leastStep leavers shortLeavers badOldPanel badPrevious badBirths listsRefusal
     rotationRefusal rotationAnswerBy rotationLeaversBy
-    held badIndex badRelative badWeight badUnits badOpenLists badBase badShares openInputRefusal weightRefusal openRefusal openRecord link figureAt broken callInputRefusal figureRefusal callRefusal callAnswer
-    exactOpen panelExact exactMoved directOpen numerator denominator badSectors totalOf totalAnswer
+    held badIndex badRelative badWeight badUnits badOpenLists badBase badShares openInputRefusal weightRefusal openRefusal openRecord link figureAt badLinks broken callInputRefusal figureRefusal callRefusal callAnswer
+    exactOpen panelExact exactMoved directPanel numerator denominator badSectors totalOf totalAnswer
     bigEndian operandsOf widthOf commandOf readingRefusal reading restOf digitsOn decimalOn lineOf lineOf2 panelLines
     emptyJob withUnit onUnit withPanel onDraw placeRefusal withShare onShare withRelative onRelative withChain onOpen step printed output
 reference-table =

@@ -6,7 +6,7 @@ use native.Mathlib.Omega.{arith}
 use Rattle.rules.specs.Tests.{_or_, outside}
 use Rattle.rules.specs.Refusals.{refuse, _then_, stays}
 use Rattle.rules.specs.Lists.{sum, products, scaled, anyOf, anyPair}
-use Rattle.rules.specs.Chain.{Chain, Call, held, badIndex, badRelative, badWeight, badUnits, weightRefusal, link, figureAt, broken, callInputRefusal, figureRefusal, callRefusal, callAnswer, after}
+use Rattle.rules.specs.Chain.{Chain, Call, held, badIndex, badRelative, badWeight, badUnits, weightRefusal, link, figureAt, badLinks, broken, callInputRefusal, figureRefusal, callRefusal, callAnswer, after}
 use Rattle.rules.specs.Year.{fourCalls, stopsBy, figuresOf, upTo, afterAll, roomRefusal, yearRefusal, yearFigures, yearAfter, Year, yearOf, yearCalls}
 use Rattle.rules.specs.Events.{Event, Made, singles, events}
 
@@ -15,7 +15,7 @@ abbrev one : ℕ → List ℕ
 one p = p ∷ []
 
 abbrev single : ℕ → ℕ → Chain
-single c closes = record { weights = one 2000000; units = 1; index = c; closes = closes }
+single c closes = record { weights = one 2000000; units = 1; index = c; closes = closes; links = closes }
 
 abbrev sevens : List ℕ
 sevens = 7 ∷ 7 ∷ 7 ∷ 7 ∷ 7 ∷ []
@@ -29,7 +29,7 @@ comesTo n k fs r = record { refusal = n; count = k; chain = r; figures = fs }
 record Years : Type 0 where
   -- the four figures in the first four places, and the close's record
   accepted : year (single 1000000000 0) (one 101000) (one 102000) (one 103000) (one 104000) sevens ≡
-      comesTo 0 4 (1010000000 ∷ 1020000000 ∷ 1030000000 ∷ 1040000000 ∷ 7 ∷ []) (record { weights = one 2080000; units = 1; index = 1040000000; closes = 1 })
+      comesTo 0 4 (1010000000 ∷ 1020000000 ∷ 1030000000 ∷ 1040000000 ∷ 7 ∷ []) (record { weights = one 2080000; units = 1; index = 1040000000; closes = 1; links = 1 })
   -- figures of accepted calls are in the buffer after a refusal
   stopped : year (single 1000000000 0) (one 101000) (one 102000) (one 24999) (one 104000) sevens ≡
       comesTo 13 2 (1010000000 ∷ 1020000000 ∷ 7 ∷ 7 ∷ 7 ∷ []) (single 1000000000 0)
@@ -46,7 +46,7 @@ record Years : Type 0 where
   broken-record : year (single 0 0) [] [] [] [] (7 ∷ 7 ∷ 7 ∷ 7 ∷ []) ≡ comesTo 19 0 (7 ∷ 7 ∷ 7 ∷ 7 ∷ []) (single 0 0)
   -- the fortieth close, and the year after it
   fortieth : year (single 1000000000 39) (one 100000) (one 100000) (one 100000) (one 110000) sevens ≡
-      comesTo 0 4 (1000000000 ∷ 1000000000 ∷ 1000000000 ∷ 1100000000 ∷ 7 ∷ []) (record { weights = one 2200000; units = 1; index = 1100000000; closes = 40 })
+      comesTo 0 4 (1000000000 ∷ 1000000000 ∷ 1000000000 ∷ 1100000000 ∷ 7 ∷ []) (record { weights = one 2200000; units = 1; index = 1100000000; closes = 40; links = 40 })
   spent : year (single 1000000000 40) (one 100000) (one 100000) (one 100000) (one 110000) sevens ≡ comesTo 24 0 sevens (single 1000000000 40)
   -- what they come to in a list: the single calls up to the refused one, none for 28, and the next is handed the record that was left
   in-a-list : events (single 9000000000 0)
@@ -56,7 +56,7 @@ record Years : Type 0 where
       ∷ Event.answered (Call.close (one 103000)) 9270000000 ∷ Event.answered (Call.quarter (one 100000)) 9270000000 ∷ Event.refused 13 ∷ []
 
 years : Years
-unfolding _or_ outside refuse _then_ sum products scaled anyOf anyPair held badIndex badRelative badWeight badUnits weightRefusal link figureAt broken
+unfolding _or_ outside refuse _then_ sum products scaled anyOf anyPair held badIndex badRelative badWeight badUnits weightRefusal link figureAt badLinks broken
     callInputRefusal figureRefusal callRefusal callAnswer after stopsBy figuresOf upTo afterAll roomRefusal yearRefusal yearFigures yearAfter yearCalls singles events
 years =
     record {

@@ -1,4 +1,4 @@
--- Document 01, "Chain record", refusals 9 to 13, 19, 21 to 24; 001, formulas 18 and 20.
+-- Document 01, "Chain record", refusals 9 to 13, 19, 21 to 24, with document 02's [5] and the links of [11]; 001, formulas 18 and 20.
 use Prim.Native.Nat.{ℕ, zero, suc, _-_, _*_, _/_}
 use mathlib.Core.Bool.{Bool, false, not}
 use mathlib.Core.List.{List, _++_}
@@ -10,11 +10,13 @@ use Rattle.rules.specs.Refusals.{Judged, refuse, _then_, judged, stays}
 use Rattle.rules.specs.Lists.{sum, products, scaled, anyOf, anyPair}
 
 -- The chain record. `weights` has every place of the record; the units' v are the first `units` of them.
+-- "The chain record gains the number of links (accepted closes) made in all" ([11]); `closes` are those of the present panel.
 pub record Chain : Type 0 where
   pub weights : List ℕ
   pub units : ℕ
   pub index : ℕ
   pub closes : ℕ
+  pub links : ℕ
 
 -- the v of the units
 unfoldable pub held : Chain → List ℕ
@@ -89,6 +91,7 @@ openRecord us rs start =
       units = length us;
       index = start;
       closes = 0;
+      links = 0;
     }
 
 unfoldable pub openAnswer : List ℕ → List ℕ → List ℕ → ℕ → Judged Chain
@@ -118,11 +121,15 @@ figureOf r ps = figureAt (r .index) (held r) ps
 abbrev pub moved : Chain → List ℕ → List ℕ
 moved r ps = scaled relativeScale (held r) ps
 
+-- 19: "more than forty closes"; it "also meets a record with more than forty links, or with fewer links than closes" ([11])
+unfoldable pub badLinks : ℕ → ℕ → Bool
+badLinks closes links = ltb mostCloses closes or ltb mostCloses links or ltb links closes
+
 -- 19, "before all else, a call handed a record that breaks a limit here"
 unfoldable pub broken : Chain → Bool
 broken r =
     badUnits (r .units)
-    or ltb mostCloses (r .closes)
+    or badLinks (r .closes) (r .links)
     or badIndex (r .index)
     or anyPair badWeight (held r) (held r)
     or eqb (sum (held r)) 0
@@ -140,9 +147,9 @@ abbrev pub newWeightRefusal : Chain → Call → ℕ
 newWeightRefusal r (quarter ps) = 0
 newWeightRefusal r (close ps) = weightRefusal (held r) (moved r ps)
 
--- 24: "forty closes accepted (quarter too)"
+-- 24: "forty closes accepted (quarter too)", which "now counts links over all renewals" ([11])
 abbrev pub spent : Chain → Bool
-spent r = leb mostCloses (r .closes)
+spent r = leb mostCloses (r .links)
 
 -- 23, "F outside 10^8 to 10^10", and 24
 unfoldable pub figureRefusal : Chain → List ℕ → ℕ
@@ -158,7 +165,7 @@ callRefusal r call =
 unfoldable pub callAnswer : Chain → Call → Judged ℕ
 callAnswer r call = judged (callRefusal r call) (figureOf r (relatives call))
 
--- Quarter: "the record is unchanged". Close: "sets C to F, each v to floor(v × p / 100,000), and counts one close"; other places stay.
+-- Quarter: "the record is unchanged". Close: "sets C to F, each v to floor(v × p / 100,000), and counts one close", which is a link; other places stay.
 abbrev pub accepted : Chain → Call → Chain
 accepted r (quarter ps) = r
 accepted r (close ps) =
@@ -167,6 +174,7 @@ accepted r (close ps) =
       units = r .units;
       index = figureOf r ps;
       closes = suc (r .closes);
+      links = suc (r .links);
     }
 
 -- the record after a call

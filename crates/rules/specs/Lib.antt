@@ -10,6 +10,7 @@ pub mod Rotation
 pub mod Chain
 pub mod Panel
 pub mod Year
+pub mod Renewal
 pub mod Events
 pub mod Direct
 pub mod Total

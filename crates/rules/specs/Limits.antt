@@ -65,6 +65,7 @@ lowestIndex = 100000000
 abbrev pub highestIndex : ℕ
 highestIndex = 10000000000
 
+-- closes of one chain, over all its panels (document 02, [11]): its links
 abbrev pub mostCloses : ℕ
 mostCloses = 40
 

@@ -8,7 +8,7 @@ use lib.Dec.{ltb, eqb}
 use lib.ListN.{take}
 use lib.Seq.{length-take-le}
 use borrow.Author.Needs.{needs}
-use borrow.Author.Tests.{lt-ltb, le-ltb, eq-eqb, ne-eqb}
+use borrow.Author.Tests.{eq-eqb, ne-eqb}
 use Rattle.rules.specs.Limits.{mostWeight}
 use Rattle.rules.specs.Tests.{_or_}
 use Rattle.rules.specs.Lists.{sum, anyPair}
@@ -32,7 +32,7 @@ returns-2 : tie.Need-returns-2
 unfolding broken _or_
 returns-2 c =
     let at-1 = c .before .before in
-    simp (sym (at-1 .before .bad-units .ensures) ∙ at-1 .if1 .left, lt-ltb _ _ (c .if2 .taken))
+    simp (sym (at-1 .before .bad-units .ensures) ∙ at-1 .if1 .left, sym (c .before .bad-links .ensures) ∙ c .if2 .taken)
 
 returns-3 : tie.Need-returns-3
 unfolding broken _or_
@@ -40,7 +40,7 @@ returns-3 c =
     let at-2 = c .before .before in
     let at-1 = at-2 .before .before in
     let units = sym (at-1 .before .bad-units .ensures) ∙ at-1 .if1 .left in
-    simp (units, le-ltb _ _ (at-2 .if2 .left), sym (c .before .bad-index .ensures) ∙ c .if3 .taken)
+    simp (units, sym (at-2 .before .bad-links .ensures) ∙ at-2 .if2 .left, sym (c .before .bad-index .ensures) ∙ c .if3 .taken)
 
 -- units, closes and index within their limits leave it to the units' v
 abbrev start : tie.Else3 → tie.Start
@@ -53,7 +53,7 @@ held-last s =
     let at-2 = s .before .before in
     let at-1 = at-2 .before .before in
     let units = sym (at-1 .before .bad-units .ensures) ∙ at-1 .if1 .left in
-    simp (units, le-ltb _ _ (at-2 .if2 .left), sym (s .before .bad-index .ensures) ∙ s .if3 .left)
+    simp (units, sym (at-2 .before .bad-links .ensures) ∙ at-2 .if2 .left, sym (s .before .bad-index .ensures) ∙ s .if3 .left)
 
 slice-aggregate-held : tie.Need-slice-aggregate-held
 slice-aggregate-held c =
@@ -81,5 +81,5 @@ returns-6 c =
 pub is-broken-spec : {M : Type 1} → statement M
 is-broken-spec =
     tie.close
-    (tie.spec (λ c κs. search needs) returns returns-2 (λ c κs. search needs) returns-3 slice-aggregate-held (λ c κs. search needs) returns-4
+    (tie.spec (λ c κs. search needs) returns (λ c κs. search needs) returns-2 (λ c κs. search needs) returns-3 slice-aggregate-held (λ c κs. search needs) returns-4
     (λ c κs. search needs) returns-5 returns-6)

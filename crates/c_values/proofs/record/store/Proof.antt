@@ -1,4 +1,4 @@
--- `store`: three numbers and then the weights, over the first places.
+-- `store`: four numbers and then the weights, over the first places.
 use mathlib.Core.Path.{_≡_, _∙_}
 use native.Mathlib.Omega.{arith}
 use lib.ListN.{length, set, length-set, length-take, length-drop}
@@ -18,18 +18,19 @@ same-length : tie.Need-same-length
 same-length c =
     let a = c .before .before .before .before .before .before .before .before .args in
     let n = a .chain .numbers in
-    let three = set (set (set (a .lent .now) 0 (n .units)) 1 (n .index)) 2 (n .closes) in
-    same-len-mid 3 mostPanel three (c .before .before .copy .last .1 .0) (c .before .before .copy .kept .1 .0) ∙ simp length-set
+    let four = set (set (set (set (a .lent .now) 0 (n .units)) 1 (n .index)) 2 (n .closes)) 3 (n .links) in
+    same-len-mid 4 mostPanel four (c .before .before .copy .last .1 .0) (c .before .before .copy .kept .1 .0) ∙ simp length-set
 
 returns : tie.Need-returns
 returns c =
     let a = c .before .before .before .before .before .before .before .before .args in
     let n = a .chain .numbers in
     rw (c .before .before .copy .ensures)
-    (laid (a .lent .now) (a .chain .weights) (n .units) (n .index) (n .closes) (omega arith) (search needs))
+    (laid (a .lent .now) (a .chain .weights) (n .units) (n .index) (n .closes) (n .links) (omega arith) (search needs))
 
 pub store-spec : {M : Type 1} → statement M
 store-spec =
     tie.close
-    (tie.spec (λ c. search needs) (λ c. simp length-set (omega arith)) (λ c. simp length-set (omega arith)) (λ c. search needs) (λ c. search needs)
+    (tie.spec (λ c. search needs) (λ c. simp length-set (omega arith)) (λ c. simp length-set (omega arith)) (λ c. simp length-set (omega arith))
+    (λ c. search needs) (λ c. search needs)
     (λ c. search needs) (λ c. search needs) copy-requires same-length returns)
