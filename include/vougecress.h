@@ -27,7 +27,7 @@ extern "C" {
  * The major number goes up where an entry's arguments or results change (the shared library is then another one, by its
  * SONAME), the minor one where an entry is added, the patch otherwise.
  */
-#define VOUGECRESS_VERSION_MAJOR 2
+#define VOUGECRESS_VERSION_MAJOR 3
 #define VOUGECRESS_VERSION_MINOR 0
 #define VOUGECRESS_VERSION_PATCH 0
 #define VOUGECRESS_VERSION (VOUGECRESS_VERSION_MAJOR * 10000 + VOUGECRESS_VERSION_MINOR * 100 + VOUGECRESS_VERSION_PATCH)

@@ -14,7 +14,7 @@ import library
 from commands import TOP, Copy, run
 from test_reference_cases import PRINTED
 
-VERSION = "2.0.0"
+VERSION = "3.0.0"
 
 
 def copy_with_archive(folder, **more):
@@ -175,7 +175,7 @@ def test_build_and_install(t):
             (status, printed, said),
         )
         found = sorted(str(path.relative_to(place)) for path in place.rglob("*") if not path.is_dir())
-        names = ["libvougecress.a", "libvougecress.so", "libvougecress.so.2", f"libvougecress.so.{VERSION}", "pkgconfig/vougecress.pc"]
+        names = ["libvougecress.a", "libvougecress.so", "libvougecress.so.3", f"libvougecress.so.{VERSION}", "pkgconfig/vougecress.pc"]
         t.check(found == ["include/vougecress.h", *(f"lib/{name}" for name in names)], "what is installed", found)
         t.check(copy.run("install.sh", PREFIX="usr local")[0] == 0, "again, over itself")
         status, _, said = copy.run("install.sh", PREFIX="/opt/x", DESTDIR=str(Path(folder) / "stage"))
@@ -200,7 +200,7 @@ def links_and_runs(t, place):
     status, printed, said = run([program])
     t.check(status == 0 and b"close of the year: 1062000000" in printed, "and runs", (status, said))
     needed = subprocess.run(["readelf", "-d", str(program)], capture_output=True, text=True).stdout
-    t.check("libvougecress.so.2]" in needed, "by its SONAME", needed)
+    t.check("libvougecress.so.3]" in needed, "by its SONAME", needed)
     if shutil.which("pkg-config"):
         env = {**os.environ, "PKG_CONFIG_PATH": str(place / "lib" / "pkgconfig")}
         t.check(run(["pkg-config", "--modversion", "vougecress"], env=env)[1] == f"{VERSION}\n".encode(), "pkg-config knows the version")

@@ -2,4 +2,4 @@
 use Prim.Native.Nat.{ℕ}
 
 abbrev pub libraryVersion : ℕ
-libraryVersion = 20000
+libraryVersion = 30000

@@ -3,8 +3,8 @@
 ghost use mathlib.Core.Path.{_≡_};
 ghost use Rattle.vougecress.specs.Version.{libraryVersion};
 
-// 2.0.0; the header's VOUGECRESS_VERSION.
-pub const VERSION: u32 = 20000;
+// 3.0.0; the header's VOUGECRESS_VERSION.
+pub const VERSION: u32 = 30000;
 
 // The version that was built, for a caller to hold against the header's.
 #[no_mangle]
