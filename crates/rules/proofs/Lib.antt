@@ -5,3 +5,4 @@ pub mod Chains
 pub mod Reference
 pub mod Border
 pub mod Leavers
+pub mod Kept
