@@ -8,7 +8,15 @@ See `cases` for what a case is; each generator's first line says which refusals 
 
 from cases import GENERATORS, U32, U64, Case, again
 from cases.chains import chain_cases, close_cases, open_cases, quarter_cases, total_cases
-from cases.frames import draw_cases, large_draw_cases, near_draw_cases, rotate_cases, take_all_cases
+from cases.frames import (
+    draw_cases,
+    large_draw_cases,
+    near_draw_cases,
+    poisson_draw_cases,
+    poisson_rotate_cases,
+    rotate_cases,
+    take_all_cases,
+)
 from cases.loads import load_cases
 from cases.streams import LISTING, many_draw_cases, reader_cases, stream_cases, word_cases
 from cases.samples import sample_cases
@@ -31,6 +39,8 @@ __all__ = [
     "many_draw_cases",
     "near_draw_cases",
     "open_cases",
+    "poisson_draw_cases",
+    "poisson_rotate_cases",
     "quarter_cases",
     "read_all_cases",
     "reader_cases",

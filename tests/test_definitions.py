@@ -42,6 +42,23 @@ def take_all_cases(turnovers, z, marks):
     yield f"takeAllMarks {rest}", number_list(after)
 
 
+def poisson_draw_cases(numbers, turnovers, randoms, z, start, room_numbers, room_weights):
+    rooms = (room_numbers, room_weights)
+    _, *after = frame.draw(numbers, turnovers, randoms, z, start, *rooms, key=frame.poisson_key)
+    lists = " ".join(map(number_list, (numbers, turnovers, randoms)))
+    for name, list_after in zip(("drawNumbersBy", "drawWeightsBy"), after):
+        rest = f"(frame {lists}) {z} {start} {' '.join(map(number_list, rooms))}"
+        yield f"{name} Method.sequentialPoisson {rest}", number_list(list_after)
+
+
+def poisson_rotation_cases(numbers, turnovers, randoms, z, old, panel, f, room):
+    told, leavers = frame.rotate(numbers, turnovers, randoms, z, old, panel, f, room, key=frame.poisson_key)
+    lists = " ".join(map(number_list, (numbers, turnovers, randoms)))
+    rest = f"(frame {lists}) {z} {old} {number_list(panel)} {f} {number_list(room)}"
+    yield f"rotationAnswerBy Method.sequentialPoisson {rest}", judged(told, fields(step="k", start="new_start", leaving="count"))
+    yield f"rotationLeaversBy Method.sequentialPoisson {rest}", number_list(leavers)
+
+
 def rotation_cases(numbers, turnovers, randoms, z, old, panel, f, room):
     told, leavers = frame.rotate(numbers, turnovers, randoms, z, old, panel, f, room)
     lists = " ".join(map(number_list, (numbers, turnovers, randoms)))
@@ -241,6 +258,7 @@ def frame_suite(rng, count):
         start = faulty(rng, some_start(rng), 10**6)
         rooms = [list(range(90, 90 + max(0, z + d))) for d in (faulty(rng, rng.randint(0, 2), -1), faulty(rng, rng.randint(0, 2), -1))]
         yield from draw_cases(numbers, turnovers, randoms, z, start, *rooms)
+        yield from poisson_draw_cases(numbers, turnovers, randoms, z, start, *rooms)
         yield from take_all_cases(turnovers, z, [9] * max(0, len(turnovers) + faulty(rng, rng.randint(0, 2), -1)))
 
 
@@ -254,6 +272,7 @@ def rotation_suite(rng, count):
         f = faulty(rng, rng.choice([0, 1, 250, 500, 501, 999, 1000]), 1001)
         room = list(range(70, 70 + max(0, len(panel) + faulty(rng, rng.randint(0, 2), -1))))
         yield from rotation_cases(numbers, turnovers, randoms, z, old, panel, f, room)
+        yield from poisson_rotation_cases(numbers, turnovers, randoms, z, old, panel, f, room)
 
 
 def open_suite(rng, count):
@@ -486,6 +505,14 @@ def edge_suite():
     yield from rotation_cases(*never)  # 8: a tie that unit 5 wins at every start
     phoned = ([1, 2, 3, 4, 5, 6], [10, 30, 20, 30, 25, 15], [100_000, 50_000, 150_000, 20_000, 900_000, 950_000])
     yield from rotation_cases(*phoned, 1, 0, [1, 2, 3, 4], 1_000, [0] * 6)  # document 02's worked leavers
+    yield from poisson_rotation_cases(*phoned, 1, 0, [1, 2, 3, 4], 1_000, [0] * 6)
+    whole = ([1, 2, 3], [1_000_000, 900_000, 800_000], [900_000, 500_000, 300_000])
+    close = ([1, 2, 3], [1_500_001, 3, 1_500_002], [999_998, 2, 999_999])
+    four = ([1, 2, 3, 4], [50, 20, 50, 20], [400_000, 700_000, 0, 100_000])
+    for lists, z in ((whole, 1), (close, 1), (four, 2)):  # document 02, [8]
+        yield from poisson_draw_cases(*lists, z, 0, [7] * 3, [8] * 3)
+    yield from rotation_cases(*four, 2, 0, [1, 3], 500, [0, 7])
+    yield from poisson_rotation_cases(*four, 2, 0, [1, 3], 500, [0, 7])
     drawn = [("unit", number, 5 * 10**6, number) for number in (1, 2, 3)] + [("draw", 2, 0)]
     for command in (("relative", 1, 100_000), ("relative", 2, 100_000), ("share", 1, 10_000), ("share", 2, 10_000)):
         yield from job_cases(drawn + [command, ("close",)])  # 18 at the panel's size

@@ -12,7 +12,7 @@ from itertools import islice
 import generate
 from independent import Refused
 from independent.chain import Direct, Figure, Record, Total, close, open_chain, quarter, total, within_bound
-from independent.frame import Drawn, Rotated, Taken, draw, rotate, take_all, take_all_entry
+from independent.frame import Drawn, Rotated, Taken, draw, pareto_key, poisson_key, rotate, take_all, take_all_entry
 from independent.stream import COMMANDS, END, Job, front_word, read_command, run, step
 from independent.sample import share
 from independent.register import BadLine, import_lists, line_number, units_of
@@ -29,6 +29,16 @@ STREAM_REFUSALS = {1, 2, 3, 4, 5, 10, 11, 12, 13, 15, 16, 17, 18, 19, 20, 21, 22
 def try_draw(data):
     answer, numbers, weights = draw(**data)
     return answer, (numbers, weights) == (data["out_numbers"], data["out_weights"])
+
+
+def try_poisson_draw(data):
+    answer, numbers, weights = draw(**data, key=poisson_key)
+    return answer, (numbers, weights) == (data["out_numbers"], data["out_weights"])
+
+
+def try_poisson_rotate(data):
+    answer, leavers = rotate(**data, key=poisson_key)
+    return answer, leavers == data["out_leavers"]
 
 
 def try_take_all(data):
@@ -102,6 +112,8 @@ ENTRIES = {
     "draw_cases": (try_draw, {1, 2, 3, 4, 5, 6}, 60, 3_000),
     "take_all_cases": (try_take_all, {1, 3, 5, 6}, 100, 5_000),
     "rotate_cases": (try_rotate, {1, 2, 3, 4, 5, 6, 7, 8}, 30, 1_000),
+    "poisson_draw_cases": (try_poisson_draw, {1, 2, 3, 4, 5, 6}, 60, 3_000),
+    "poisson_rotate_cases": (try_poisson_rotate, {1, 2, 3, 4, 5, 6, 7, 8}, 30, 1_000),
     "open_cases": (try_open, {9, 10, 11, 12, 13, 21, 22}, 300, 20_000),
     "quarter_cases": (try_quarter, {9, 13, 19, 23, 24}, 300, 20_000),
     "close_cases": (try_close, {9, 13, 19, 21, 22, 23, 24}, 300, 20_000),
@@ -305,6 +317,58 @@ def test_ties_decide(t):
         wrong += in_doubles != draw(**case.data)[1][0]
     t.check(picked == {5, 6}, "the first and the second are each drawn", picked)
     t.check(wrong > 0, "doubles would draw another unit", wrong)
+
+
+# Order sampling: U is uniform, λ the inclusion probability n × turnover / X, and the n smallest ranking variables are taken
+# (R's package `sampling`, `UPopips`, has these two types under these names).
+RANKING = {
+    "uniform": lambda U, share: U / share,
+    "pareto": lambda U, share: U / (1 - U) / (share / (1 - share)),
+}
+
+
+def order_sample(data, group, n, X, kind):
+    """The unit numbers of an order sample of this type; equal variables by lower number."""
+    variables = []
+    for i, number in enumerate(data["numbers"]):
+        if i not in group:
+            U = Fraction((data["randoms"][i] - data["start"]) % 1_000_000, 1_000_000)
+            variables.append((RANKING[kind](U, Fraction(n * data["turnovers"][i], X)), number))
+    return {number for _, number in sorted(variables)[:n]}
+
+
+def test_order_sampling(t):
+    """A draw by either key is the order sample of its type, take-all units added."""
+    unlike = 0
+    for case in generate.poisson_draw_cases(t.seed, t.count(200, 10_000)):
+        if case.intends != 0 or len(case.data["numbers"]) > 1_000:
+            continue
+        panels = []
+        group = group_places(case.data)
+        for kind, key in (("uniform", poisson_key), ("pareto", pareto_key)):
+            answer, numbers, _ = draw(**case.data, key=key)
+            panels.append(set(numbers[: case.data["z"]]))
+            expected = order_sample(case.data, group, answer.n, answer.X, kind) if answer.n else set()
+            t.check(panels[-1] == expected | {case.data["numbers"][i] for i in group}, f"an order sample of the {kind} type", case)
+        unlike += panels[0] != panels[1]
+    t.check(unlike > 20, "the two draws often differ", unlike)
+
+
+def test_poisson_worked(t):
+    """Document 02, [8]: whole parts do not decide; the two keys draw and rotate unlike."""
+    draws = (
+        (([1, 2, 3], [1_000_000, 900_000, 800_000], [900_000, 500_000, 300_000]), 1, [3], [2_700_000]),
+        (([1, 2, 3], [1_500_001, 3, 1_500_002], [999_998, 2, 999_999]), 1, [1], [3_000_006]),
+        (([1, 2, 3, 4], [50, 20, 50, 20], [400_000, 700_000, 0, 100_000]), 2, [3, 4], [140, 140]),
+    )
+    for lists, z, panel, weights in draws:
+        told = draw(*lists, z, 0, [0] * z, [0] * z, key=poisson_key)[1:]
+        t.check(told == (panel, weights), "the worked draw", told)
+    four = draws[-1][0]
+    t.check(draw(*four, 2, 0, [0] * 2, [0] * 2)[1] == [1, 3], "the Pareto draw")
+    for key, k, leaver in ((poisson_key, 0, 1), (pareto_key, 1, 3)):
+        told = rotate(*four, 2, 0, [1, 3], 500, [0, 7], key=key)
+        t.check(told == (Rotated(k, 1_000 * k, 1), [leaver, 7]), "the worked rotation", told)
 
 
 # Rotation

@@ -1,4 +1,6 @@
-"""Cases of draw, the take-all entry and rotation."""
+"""Cases of draw and rotation, by either key, and of the take-all entry."""
+
+from math import gcd
 
 from . import (
     HALF,
@@ -635,6 +637,84 @@ def rotate_cases(rng, count):
     yield from limits_of(rotation_limits(rng))
     for what, data in special_rotations(rng):
         yield 0, what, data
+    yield 8, "equal keys at every start: the lower number never leaves", two_equal_units(rng, 400_000, 400_000)
+    yield from faults_of(rng, a_sound_rotation, ROTATE_FAULTS)
+    for _ in range(count):
+        yield None, "random", a_rotation(rng)
+
+
+# Sequential Poisson (document 02, [8]): the key is r over turnover
+
+
+def three_units(rng, turnovers, randoms):
+    """A draw of one of three units; the third is never drawn."""
+    return {
+        "numbers": [5, 6, 7],
+        "turnovers": turnovers,
+        "randoms": randoms,
+        "z": 1,
+        "start": 0,
+        "out_numbers": junk(rng, 2, U32),
+        "out_weights": junk(rng, 2, U64),
+    }
+
+
+def neighbouring_fractions(rng):
+    """(r, turnover) of two units whose cross products differ by 1, the second key the smaller: no double tells them apart."""
+    r_one, r_two = rng.sample(range(100_000, 1_000_000), 2)
+    while gcd(r_one, r_two) != 1:
+        r_two = rng.randrange(100_000, 1_000_000)
+    two = pow(r_one, -1, r_two) + r_two * rng.randrange(10**10 // r_two, 10**11 // r_two)
+    return (r_one, (r_one * two - 1) // r_two), (r_two, two)
+
+
+def poisson_ties(rng):
+    """Equal keys of unlike units, and keys that are nearly equal, each in both orders; keys of 0."""
+    for scale in (1, 10**6, 10**11):
+        yield "equal keys", three_units(rng, [2 * scale, 4 * scale, 2 * scale], [250_000, 500_000, 999_999])
+        yield "equal keys", three_units(rng, [4 * scale, 2 * scale, 2 * scale], [500_000, 250_000, 999_999])
+        yield "keys of 0", three_units(rng, [scale, 3 * scale, 2 * scale], [0, 0, 1])
+    for _ in range(6):
+        (r_one, one), (r_two, two) = neighbouring_fractions(rng)
+        yield "nearly equal keys", three_units(rng, [one, two, 1], [r_one, r_two, 999_999])
+        yield "nearly equal keys", three_units(rng, [two, one, 1], [r_two, r_one, 999_999])
+
+
+def four_units(rng, panel):
+    """Document 02, [8], worked: the draw of two is 3 and 4, and by Pareto keys 1 and 3."""
+    four = {"numbers": [1, 2, 3, 4], "turnovers": [50, 20, 50, 20], "randoms": [400_000, 700_000, 0, 100_000], "z": 2}
+    return changed(frame_a(rng, 0, panel, 500), **four)
+
+
+@cases
+def poisson_draw_cases(rng, count):
+    """Sequential Poisson draw: means to hit 1, 2, 3, 4, 5 and 6."""
+    nine = nine_units(rng)
+    yield 0, "whole parts are all 0", three_units(rng, [1_000_000, 900_000, 800_000], [900_000, 500_000, 300_000])
+    yield 0, "close keys", three_units(rng, [1_500_001, 3, 1_500_002], [999_998, 2, 999_999])
+    four = four_units(rng, [])
+    yield 0, "not the Pareto panel", changed(nine, **{name: four[name] for name in ("numbers", "turnovers", "randoms", "z")})
+    for what, data in poisson_ties(rng):
+        yield 0, what, data
+    for data in tie_draws(rng):
+        yield 0, "equal or nearly equal Pareto keys", data
+    yield from limits_of(frame_limits(nine, "start"))
+    for name in ("out_numbers", "out_weights"):
+        exact = changed(nine, **{name: nine[name][:2]})
+        short = changed(nine, **{name: nine[name][:1]})
+        yield from limits_of([(f"{name} of z places", (0, exact), (6, short))])
+    yield from faults_of(rng, lambda rng: a_draw(rng, rng.randrange(3, 30)), DRAW_FAULTS)
+    for _ in range(count):
+        yield 0, "random", a_draw(rng)
+
+
+@cases
+def poisson_rotate_cases(rng, count):
+    """Rotation by sequential Poisson keys: means to hit 1 to 8. Special and random cases may be refused by 8."""
+    yield 0, "not the Pareto leaver", four_units(rng, [1, 3])
+    yield from limits_of(rotation_limits(rng))
+    for what, data in special_rotations(rng):
+        yield None, what, data
     yield 8, "equal keys at every start: the lower number never leaves", two_equal_units(rng, 400_000, 400_000)
     yield from faults_of(rng, a_sound_rotation, ROTATE_FAULTS)
     for _ in range(count):

@@ -1,4 +1,4 @@
-"""Document 01: "Frame and weights", "Draw" and "Rotation".
+"""Document 01: "Frame and weights", "Draw" and "Rotation"; document 02, [8]: either with the sequential Poisson key.
 
 Lists are handed over as Python lists. An entry never changes a list it was
 handed: buffers come back beside the answer as new lists.
@@ -132,9 +132,14 @@ def shifted(random, start):
     return r
 
 
-def key(r, turnover, n, X):
+def pareto_key(r, turnover, n, X):
     """Formula 22 without the common factor n."""
     return Fraction(r * (X - n * turnover), (CIRCLE - r) * turnover)
+
+
+def poisson_key(r, turnover, n, X):
+    """Document 02, [8]: "Its key is r over turnover (section 4.2, method 2, without common factors)"."""
+    return Fraction(r, turnover)
 
 
 def order(its_key, number):
@@ -142,7 +147,7 @@ def order(its_key, number):
     return (its_key, number)
 
 
-def sampled(numbers, turnovers, randoms, start, stratum):
+def sampled(numbers, turnovers, randoms, start, stratum, key):
     """Places of the n sampled units under a start; under cut-off there is none."""
     if stratum.n == 0:
         return frozenset()
@@ -191,15 +196,15 @@ def size_is_wrong(z, units):
     return z == 0 or z > MOST_PANEL or z > units
 
 
-def draw(numbers, turnovers, randoms, z, start, out_numbers, out_weights):
-    """Answer, and both buffers as they are afterwards."""
+def draw(numbers, turnovers, randoms, z, start, out_numbers, out_weights, key=pareto_key):
+    """Answer, and both buffers as they are afterwards; the Pareto draw unless another key is given."""
     refusal = frame_refusal(numbers, turnovers, randoms, z, start)
     if refusal is None and (len(out_numbers) < z or len(out_weights) < z):
         refusal = 6
     if refusal is not None:
         return Refused(refusal), list(out_numbers), list(out_weights)
     stratum = take_all(turnovers, z)
-    chosen = stratum.group | sampled(numbers, turnovers, randoms, start, stratum)
+    chosen = stratum.group | sampled(numbers, turnovers, randoms, start, stratum, key)
     # The frame rises, so places in rising order give unit numbers in rising order.
     places = sorted(chosen)
     panel = [numbers[i] for i in places]
@@ -268,7 +273,7 @@ def rotation_refusal(old_panel, f, out_leavers):
     return None
 
 
-def rotate(numbers, turnovers, randoms, z, old_start, old_panel, f, out_leavers):
+def rotate(numbers, turnovers, randoms, z, old_start, old_panel, f, out_leavers, key=pareto_key):
     """Answer, and the leavers' buffer as it is afterwards.
 
     Document 02, [1]: "Write leavers by falling turnover in the new frame, equal turnovers by lower unit number."
@@ -285,7 +290,7 @@ def rotate(numbers, turnovers, randoms, z, old_start, old_panel, f, out_leavers)
     required = required_leavers(f, len(members))
     for k in range(LAST_STEP + 1):
         start = (old_start + STEP * k) % CIRCLE
-        stay = sampled(numbers, turnovers, randoms, start, stratum)
+        stay = sampled(numbers, turnovers, randoms, start, stratum, key)
         leavers = [i for i in members if i not in stay]
         if len(leavers) >= required:
             phoned = [numbers[i] for i in by_falling_key(turnovers, leavers)]

@@ -18,7 +18,9 @@ use Rattle.selection.proofs.Listed.{listed-both}
 use Rattle.group.specs.declared.Group.{Group}
 use Rattle.group.specs.Group.{IsGroup, Sound}
 use Rattle.group.proofs.Accepted.{sound}
+use Rattle.draw_key.specs.declared.Method.{Method}
 use Rattle.draw_key.specs.declared.Setting.{Setting}
+use Rattle.draw_key.specs.Methods.{methodOf}
 use Rattle.draw_key.specs.Units.{hasKey, Units}
 use Rattle.draw_list.specs.declared.Found.{Found}
 use Rattle.draw_list.specs.Found.{IsFound, passing, foundOf, Passing}
@@ -31,18 +33,18 @@ use Rattle.draw_panel.specs.Panel.{Weighable, Markable, weightBy, drawnOf}
 use Rattle.draw.proofs.Intended.{z-drawn}
 
 -- a frame that no refusal stops, with its group, marks and gaps
-pub record Drawing (f : Frame) (z start : ℕ) (marks gs : List ℕ) (g : Group) : Type 0 where
+pub record Drawing (m : Method) (f : Frame) (z start : ℕ) (marks gs : List ℕ) (g : Group) : Type 0 where
   pub none : frameRefusal f z start ≡ 0
   pub ok : Accepted f z start
   pub group-is : IsGroup (f .turnovers) z marks g
-  pub filled : Gaps (f .turnovers) marks (g .n) (g .rest) gs
+  pub filled : Gaps (f .turnovers) marks m (g .n) (g .rest) gs
 
-abbrev pub settingOf : ℕ → Group → Setting
-settingOf start g = record { start = start; n = g .n; rest = g .rest }
+abbrev pub settingOf : Method → ℕ → Group → Setting
+settingOf m start g = record { method = m; start = start; n = g .n; rest = g .rest }
 
-module _ {f : Frame} {z start : ℕ} {marks gs : List ℕ} {g : Group} (d : Drawing f z start marks gs g) where
+module _ {m : Method} {f : Frame} {z start : ℕ} {marks gs : List ℕ} {g : Group} (d : Drawing m f z start marks gs g) where
   abbrev s : Setting
-  s = settingOf start g
+  s = settingOf m start g
 
   abbrev k : IsGroup (f .turnovers) z marks g
   k = d .group-is
@@ -74,31 +76,31 @@ module _ {f : Frame} {z start : ℕ} {marks gs : List ℕ} {g : Group} (d : Draw
   abbrev drawn : ℕ → Bool
   drawn = drawnOf (f .turnovers) (f .randoms) gs marks s
 
-  drawn-here : (i : ℕ) → i < length (f .turnovers) → drawn i ≡ drawnBy f r start i
+  drawn-here : (i : ℕ) → i < length (f .turnovers) → drawn i ≡ drawnBy (methodOf m) f r start i
   unfolding drawnBy
   drawn-here i l = ap₂ (λ (a b : Bool). a or b) (k .agrees .takes i l) (sampled-is f s sound-here (k .agrees) (d .filled) i l)
 
   pub drawn-size : count drawn (length (f .turnovers)) ≡ z
   unfolding count
-  drawn-size = sum-same drawn (drawnBy f r start) (λ i. 1) (length (f .turnovers)) drawn-here ∙ z-drawn f z start (d .none)
+  drawn-size = sum-same drawn (drawnBy (methodOf m) f r start) (λ i. 1) (length (f .turnovers)) drawn-here ∙ z-drawn (methodOf m) f z start (d .none)
 
   weight-here : (i : ℕ) → i < length (f .turnovers) → weightBy (f .turnovers) marks s i ≡ baseWeight (f .turnovers) r i
   weight-here = weight-is (f .turnovers) marks (k .agrees)
 
-  pub drawn-numbers : listed drawn (λ i. getD (f .numbers) i 0) (length (f .turnovers)) ≡ panelNumbers f r start
+  pub drawn-numbers : listed drawn (λ i. getD (f .numbers) i 0) (length (f .turnovers)) ≡ panelNumbers (methodOf m) f r start
   unfolding panelNumbers
-  drawn-numbers = listed-both drawn (drawnBy f r start) _ _ (length (f .turnovers)) drawn-here (λ i l. refl)
+  drawn-numbers = listed-both drawn (drawnBy (methodOf m) f r start) _ _ (length (f .turnovers)) drawn-here (λ i l. refl)
 
-  pub drawn-weights : listed drawn (weightBy (f .turnovers) marks s) (length (f .turnovers)) ≡ panelWeights f r start
+  pub drawn-weights : listed drawn (weightBy (f .turnovers) marks s) (length (f .turnovers)) ≡ panelWeights (methodOf m) f r start
   unfolding panelWeights
-  drawn-weights = listed-both drawn (drawnBy f r start) _ _ (length (f .turnovers)) drawn-here weight-here
+  drawn-weights = listed-both drawn (drawnBy (methodOf m) f r start) _ _ (length (f .turnovers)) drawn-here weight-here
 
   -- ---- from a short list
   module _ (found : Found) (w : IsFound (f .turnovers) (f .randoms) gs s z found) where
     abbrev bounded : ℕ → Bool
     bounded = within (f .turnovers) (f .randoms) gs s (found .bound)
 
-    within-here : (i : ℕ) → i < length (f .turnovers) → bounded i ≡ drawnBy f r start i
+    within-here : (i : ℕ) → i < length (f .turnovers) → bounded i ≡ drawnBy (methodOf m) f r start i
     within-here i l =
         within-is units-here (keyless-size f s sound-here (k .agrees) (d .filled) (w .sampled)) (w .bounds) i l
         ∙ drawn-is f s sound-here (k .agrees) (d .filled) (w .sampled) i l
@@ -109,14 +111,14 @@ module _ {f : Frame} {z start : ℕ} {marks gs : List ℕ} {g : Group} (d : Draw
     pub found-size : count (passing found) (found .count) ≡ z
     found-size = found-count (f .turnovers) (f .randoms) gs s z found w
 
-    pub found-numbers : foundOf found (λ i. getD (f .numbers) i 0) ≡ panelNumbers f r start
+    pub found-numbers : foundOf found (λ i. getD (f .numbers) i 0) ≡ panelNumbers (methodOf m) f r start
     unfolding panelNumbers
     found-numbers =
         found-listed (f .turnovers) (f .randoms) gs s z found w _
-        ∙ listed-both bounded (drawnBy f r start) _ _ (length (f .turnovers)) within-here (λ i l. refl)
+        ∙ listed-both bounded (drawnBy (methodOf m) f r start) _ _ (length (f .turnovers)) within-here (λ i l. refl)
 
-    pub found-weights : foundOf found (weightBy (f .turnovers) marks s) ≡ panelWeights f r start
+    pub found-weights : foundOf found (weightBy (f .turnovers) marks s) ≡ panelWeights (methodOf m) f r start
     unfolding panelWeights
     found-weights =
         found-listed (f .turnovers) (f .randoms) gs s z found w _
-        ∙ listed-both bounded (drawnBy f r start) _ _ (length (f .turnovers)) within-here weight-here
+        ∙ listed-both bounded (drawnBy (methodOf m) f r start) _ _ (length (f .turnovers)) within-here weight-here

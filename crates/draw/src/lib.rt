@@ -1,4 +1,6 @@
-// The draw (document 01, "Frame and weights" and "Draw"; 001, section 2.3 and formulas 21 and 22): a panel of z units of a frame, under a start.
+// The draw (document 01, "Frame and weights" and "Draw"; 001, section 2.3 and formulas 21 and 22; document 02, [8]): a panel of z units of a frame, under a
+// start, by Pareto keys or by sequential Poisson keys.
+use draw_key::Method;
 use draw_key::Setting;
 use group::Group;
 use limits::MOST_FRAME;
@@ -8,8 +10,9 @@ ghost use mathlib.Core.Path.{_≡_};
 ghost use Prim.Native.Nat.{_≤_};
 ghost use lib.ListN.{length};
 ghost use Rattle.rules.specs.TakeAll.{frame, takeAllGroup};
-ghost use Rattle.rules.specs.Draw.{drawRefusal, drawAnswer, drawNumbers, drawWeights};
+ghost use Rattle.rules.specs.Draw.{drawRefusal, drawAnswer, drawNumbersBy, drawWeightsBy, drawNumbers, drawWeights};
 ghost use Rattle.refusals.specs.Number.{verdictOf};
+ghost use Rattle.draw_key.specs.Methods.{methodOf};
 ghost use Rattle.draw.specs.Answer.{answerFrom, IsSize, numbersOver, weightsOver};
 
 // Units of a small frame: as many as a job holds.
@@ -49,6 +52,7 @@ fn judge(
 
 // Draws the panel of a frame that no refusal stops, with room for the gaps and the marks of its units, and answers the take-all group that it was drawn with.
 fn draw_with(
+    method: Method,
     numbers: &[u32],
     turnovers: &[u64],
     randoms: &[u32],
@@ -62,12 +66,13 @@ fn draw_with(
     requires { ⌜ drawRefusal (frame (now numbers) (now turnovers) (now randoms)) z start (now panel) (now weights) ≡ 0 ⌝ }
     requires { ⌜ (length (now turnovers) ≤ length (now gaps)) × (length (now turnovers) ≤ length (now marks)) ⌝ }
     ensures { λ g. ⌜ IsSize (takeAllGroup (now (turnovers .entry)) z) g ⌝ }
-    ensures { λ _. ⌜ now (panel .exit) ≡ numbersOver (frame (now (numbers .entry)) (now (turnovers .entry)) (now (randoms .entry))) z start (now (panel .entry)) ⌝ }
-    ensures { λ _. ⌜ now (weights .exit) ≡ weightsOver (frame (now (numbers .entry)) (now (turnovers .entry)) (now (randoms .entry))) z start (now (weights .entry)) ⌝ }
+    ensures { λ _. ⌜ now (panel .exit) ≡ numbersOver (methodOf method) (frame (now (numbers .entry)) (now (turnovers .entry)) (now (randoms .entry))) z start (now (panel .entry)) ⌝ }
+    ensures { λ _. ⌜ now (weights .exit) ≡ weightsOver (methodOf method) (frame (now (numbers .entry)) (now (turnovers .entry)) (now (randoms .entry))) z start (now (weights .entry)) ⌝ }
 {
     let g = group::find_group(turnovers, z, marks);
-    draw_gaps::fill(turnovers, marks, g.n, g.rest, gaps);
+    draw_gaps::fill(turnovers, marks, method, g.n, g.rest, gaps);
     let s = Setting {
+        method,
         start,
         n: g.n,
         rest: g.rest,
@@ -83,6 +88,7 @@ fn draw_with(
 
 // Draws the panel of a frame that no refusal stops. Room for the largest frame is not laid out for a small one.
 fn draw_panel(
+    method: Method,
     numbers: &[u32],
     turnovers: &[u64],
     randoms: &[u32],
@@ -93,13 +99,14 @@ fn draw_panel(
 ) -> Group
     requires { ⌜ drawRefusal (frame (now numbers) (now turnovers) (now randoms)) z start (now panel) (now weights) ≡ 0 ⌝ }
     ensures { λ g. ⌜ IsSize (takeAllGroup (now (turnovers .entry)) z) g ⌝ }
-    ensures { λ _. ⌜ now (panel .exit) ≡ numbersOver (frame (now (numbers .entry)) (now (turnovers .entry)) (now (randoms .entry))) z start (now (panel .entry)) ⌝ }
-    ensures { λ _. ⌜ now (weights .exit) ≡ weightsOver (frame (now (numbers .entry)) (now (turnovers .entry)) (now (randoms .entry))) z start (now (weights .entry)) ⌝ }
+    ensures { λ _. ⌜ now (panel .exit) ≡ numbersOver (methodOf method) (frame (now (numbers .entry)) (now (turnovers .entry)) (now (randoms .entry))) z start (now (panel .entry)) ⌝ }
+    ensures { λ _. ⌜ now (weights .exit) ≡ weightsOver (methodOf method) (frame (now (numbers .entry)) (now (turnovers .entry)) (now (randoms .entry))) z start (now (weights .entry)) ⌝ }
 {
     if turnovers.len() <= SMALL_FRAME {
         let mut few = [0u64; SMALL_FRAME];
         let mut ones = [0u8; SMALL_FRAME];
         return draw_with(
+            method,
             numbers,
             turnovers,
             randoms,
@@ -114,6 +121,7 @@ fn draw_panel(
     let mut gaps = [0u64; MOST_FRAME];
     let mut marks = [0u8; MOST_FRAME];
     draw_with(
+        method,
         numbers,
         turnovers,
         randoms,
@@ -126,7 +134,44 @@ fn draw_panel(
     )
 }
 
-// Draws z units: writes their numbers, in rising order, and their W into the first z places of the two lent buffers; answers n and X.
+// Draws z units by the keys of a method: writes their numbers, in rising order, and their W into the first z places of the two lent buffers; answers n and X.
+pub fn draw_by(
+    method: Method,
+    numbers: &[u32],
+    turnovers: &[u64],
+    randoms: &[u32],
+    z: usize,
+    start: u32,
+    panel: &mut [u32],
+    weights: &mut [u64],
+) -> Answer
+    ensures { λ r. ⌜ answerFrom r ≡ drawAnswer (frame (now (numbers .entry)) (now (turnovers .entry)) (now (randoms .entry))) z start (now (panel .entry)) (now (weights .entry)) ⌝ }
+    ensures { λ _. ⌜ now (panel .exit) ≡ drawNumbersBy (methodOf method) (frame (now (numbers .entry)) (now (turnovers .entry)) (now (randoms .entry))) z start (now (panel .entry)) (now (weights .entry)) ⌝ }
+    ensures { λ _. ⌜ now (weights .exit) ≡ drawWeightsBy (methodOf method) (frame (now (numbers .entry)) (now (turnovers .entry)) (now (randoms .entry))) z start (now (panel .entry)) (now (weights .entry)) ⌝ }
+{
+    let verdict = judge(numbers, turnovers, randoms, z, start, panel, weights);
+    match verdict {
+        Verdict::Refused(why) => Answer::Refused(why),
+        Verdict::Accepted => {
+            let g = draw_panel(
+                method,
+                numbers,
+                turnovers,
+                randoms,
+                z,
+                start,
+                panel,
+                weights,
+            );
+            Answer::Drawn {
+                n: g.n,
+                rest: g.rest,
+            }
+        }
+    }
+}
+
+// The Pareto draw.
 pub fn draw(
     numbers: &[u32],
     turnovers: &[u64],
@@ -140,15 +185,14 @@ pub fn draw(
     ensures { λ _. ⌜ now (panel .exit) ≡ drawNumbers (frame (now (numbers .entry)) (now (turnovers .entry)) (now (randoms .entry))) z start (now (panel .entry)) (now (weights .entry)) ⌝ }
     ensures { λ _. ⌜ now (weights .exit) ≡ drawWeights (frame (now (numbers .entry)) (now (turnovers .entry)) (now (randoms .entry))) z start (now (panel .entry)) (now (weights .entry)) ⌝ }
 {
-    let verdict = judge(numbers, turnovers, randoms, z, start, panel, weights);
-    match verdict {
-        Verdict::Refused(why) => Answer::Refused(why),
-        Verdict::Accepted => {
-            let g = draw_panel(numbers, turnovers, randoms, z, start, panel, weights);
-            Answer::Drawn {
-                n: g.n,
-                rest: g.rest,
-            }
-        }
-    }
+    draw_by(
+        Method::Pareto,
+        numbers,
+        turnovers,
+        randoms,
+        z,
+        start,
+        panel,
+        weights,
+    )
 }

@@ -1,4 +1,4 @@
--- The keys of units whose turnovers and random numbers are in range, under any start: each has a positive denominator, so that comparing keys, and
+-- The keys of units whose turnovers and random numbers are in range, by either method and under any start: each has a positive denominator, so that comparing keys, and
 -- of equal keys the unit numbers, orders the units strictly and totally. This is what the laws of selection ask for.
 use Prim.Native.Nat.{ℕ, _-_, _*_, _≤_, _<_}
 use mathlib.Core.Bool.{Bool, true, false, not}
@@ -12,12 +12,15 @@ use borrow.Author.Tests.{ltb-true}
 use Rattle.rules.specs.Limits.{randomRange}
 use Rattle.rules.specs.Selection.{byKey, firsts}
 use Rattle.rules.specs.TakeAll.{Frame, Group, turnover}
-use Rattle.rules.specs.Draw.{shifted, shiftedOf, keyNumerator, keyDenominator, fractionBelow, keyBelow}
+use Rattle.rules.specs.Draw.{shifted, shiftedOf, keyNumerator, keyDenominator, fractionBelow, keyBelow, Method as RulesMethod}
 use Rattle.rules.proofs.Tests.{and-off, by-test, by-order, not-both, must-hold}
 use Rattle.selection.proofs.Orders.{Order, KeyOrder, key-order, firsts-zero}
 use Rattle.draw_fraction.proofs.Order.{asymmetric, not-below-transitive, same-fractions}
 use Rattle.draw_fraction.specs.declared.Fraction.{Fraction}
+use Rattle.draw_key.specs.declared.Method.{Method}
+use Rattle.draw_key.specs.declared.Method.the-variants.{Pareto, SequentialPoisson}
 use Rattle.draw_key.specs.declared.Setting.{Setting}
+use Rattle.draw_key.specs.Methods.{takenOff, denominatorBy}
 use Rattle.draw_key.specs.Units.{numOf, denOf, keyLess, keyOrder, keyless, hasKey, sampledOf, Units, UnitKey}
 
 -- a shifted number is in the range of the random number, whatever the start
@@ -26,10 +29,24 @@ unfolding shifted
 shifted-low start random low =
     by-test (ltb random start) (λ e. rw e (omega (arith, ltb-true random start e))) (λ e. rw e (omega arith))
 
+-- at most all of an amount is taken off
+pub taken-low : (m : Method) (amount : ℕ) → takenOff m amount ≤ amount
+unfolding takenOff
+taken-low Pareto amount = omega arith
+taken-low SequentialPoisson amount = omega arith
+
 -- "1,000,000 − r" and the turnover are positive, so the denominator is
-pub denominator-positive : (t r : ℕ) → 0 < t → r < randomRange → 0 < keyDenominator t r
+far-positive : (t off : ℕ) → 0 < t → off < randomRange → 0 < (randomRange - off) * t
+far-positive t off some low = let far : 0 < randomRange - off = omega arith in mul-pos far some
+
+denominator-positive : (m : RulesMethod) (t r : ℕ) → 0 < t → r < randomRange → 0 < keyDenominator m t r
 unfolding keyDenominator
-denominator-positive t r some low = let far : 0 < randomRange - r = omega arith in mul-pos far some
+denominator-positive RulesMethod.pareto t r some low = far-positive t r some low
+denominator-positive RulesMethod.sequentialPoisson t r some low = some
+
+pub by-positive : (m : Method) (t r : ℕ) → 0 < t → r < randomRange → 0 < denominatorBy m t r
+unfolding denominatorBy
+by-positive m t r some low = far-positive t (takenOff m r) some (omega (arith, taken-low m r))
 
 -- a numerator that is not 0 has a gap
 pub gap-some : (r gap : ℕ) → 0 < r * gap → 0 < gap
@@ -51,23 +68,22 @@ fractions-compare among num den n positive = record {
       (not-below-transitive _ _ _ _ _ _ (positive i li) (positive j lj) (positive k lk) not e));
 }
 
--- "the n smallest keys …; equal keys go by lower unit number": a strict total order of the marked units, for any X and n
-module _ (f : Frame) (start n : ℕ) (positive : (i : ℕ) → i < n → 0 < turnover (f .turnovers) i) (low : (i : ℕ) → i < n → getD (f .randoms) i 0 < randomRange) where
-  pub by-keys : (among : ℕ → Bool) (g : Group) → Order among (byKey (keyBelow f g start)) n
+-- keys are in a strict weak order, by either method and for any X and n: what "the n smallest keys …; equal keys go by lower unit number" asks for
+module _ (m : RulesMethod) (f : Frame) (start n : ℕ) (positive : (i : ℕ) → i < n → 0 < turnover (f .turnovers) i) (low : (i : ℕ) → i < n → getD (f .randoms) i 0 < randomRange) where
+  pub keys-compare : (among : ℕ → Bool) (g : Group) → KeyOrder among (keyBelow m f g start) n
   unfolding keyBelow
-  by-keys among g =
-      key-order
-      (fractions-compare among
-      (λ i. keyNumerator g (turnover (f .turnovers) i) (shiftedOf f start i))
-      (λ i. keyDenominator (turnover (f .turnovers) i) (shiftedOf f start i))
+  keys-compare among g =
+      fractions-compare among
+      (λ i. keyNumerator m g (turnover (f .turnovers) i) (shiftedOf f start i))
+      (λ i. keyDenominator m (turnover (f .turnovers) i) (shiftedOf f start i))
       n
-      (λ i l. denominator-positive _ _ (positive i l) (shifted-low start (getD (f .randoms) i 0) (low i l))))
+      (λ i l. denominator-positive m _ _ (positive i l) (shifted-low start (getD (f .randoms) i 0) (low i l)))
 
 -- the same of keys over gaps
 module _ {ts rs gs : List ℕ} {s : Setting} (ok : Units ts rs gs s) where
   pub unit-positive : (i : ℕ) → i < length ts → 0 < denOf ts rs s i
   unfolding denOf
-  unit-positive i l = denominator-positive _ _ (ok .positive i l) (shifted-low (s .start) (getD rs i 0) (ok .random-low i l))
+  unit-positive i l = by-positive (s .method) _ _ (ok .positive i l) (shifted-low (s .start) (getD rs i 0) (ok .random-low i l))
 
   pub key-is-order : Order (hasKey gs) (keyOrder ts rs gs s) (length ts)
   unfolding keyOrder keyLess
@@ -95,7 +111,7 @@ module _ {ts rs gs : List ℕ} {s : Setting} {i : ℕ} {f : Fraction} (k : UnitK
   key-gap h = gap-some (shifted (s .start) (getD rs i 0)) (getD gs i 0) (subst (λ (n : ℕ). 0 < n) (k .num-is) h)
 
   pub key-room : (m most : ℕ) → (0 < getD gs i 0 → m * turnover ts i ≤ most) → 0 < f .num → m * f .den ≤ randomRange * most
-  unfolding denOf keyDenominator
+  unfolding denOf denominatorBy
   key-room m most low h =
-      let far = randomRange - shifted (s .start) (getD rs i 0) in
+      let far = randomRange - takenOff (s .method) (shifted (s .start) (getD rs i 0)) in
       subst (λ (n : ℕ). m * n ≤ randomRange * most) (sym (k .den-is)) (far-low far (turnover ts i) m most (omega arith) (low (key-gap h)))

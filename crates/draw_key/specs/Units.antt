@@ -1,4 +1,4 @@
--- The keys of a frame's units from their gaps, and who has the n smallest. A gap is X − n × turnover, the part of a key that no start changes; a pass over
+-- The keys of a frame's units from their gaps, and who has the n smallest. A gap is X − n × turnover, or X by sequential Poisson: the part of a key that no start changes; a pass over
 -- many starts computes it once a unit. A unit with the gap 0 has no key: such are the take-all units. Everything from here to the panel is said in these words.
 use Prim.Native.Nat.{ℕ, _*_, _≤_, _<_}
 use mathlib.Core.Bool.{Bool, not}
@@ -9,17 +9,18 @@ use lib.Dec.{eqb}
 use Rattle.rules.specs.Limits.{mostTurnover, randomRange, mostPanel}
 use Rattle.rules.specs.Selection.{count, byKey, firsts}
 use Rattle.rules.specs.TakeAll.{turnover}
-use Rattle.rules.specs.Draw.{shifted, keyDenominator, fractionBelow}
+use Rattle.rules.specs.Draw.{shifted, fractionBelow}
 use Rattle.draw_fraction.specs.declared.Fraction.{Fraction}
 use Rattle.draw_key.specs.declared.Setting.{Setting}
+use Rattle.draw_key.specs.Methods.{denominatorBy}
 
--- "r × (X − n × turnover)", of unit i with the gap gs i
+-- r × its gap, of unit i
 unfoldable pub numOf : List ℕ → List ℕ → Setting → ℕ → ℕ
 numOf rs gs s i = shifted (s .start) (getD rs i 0) * getD gs i 0
 
--- "(1,000,000 − r) × turnover"
+-- "(1,000,000 − r) × turnover", or 1,000,000 × turnover
 unfoldable pub denOf : List ℕ → List ℕ → Setting → ℕ → ℕ
-denOf ts rs s i = keyDenominator (turnover ts i) (shifted (s .start) (getD rs i 0))
+denOf ts rs s i = denominatorBy (s .method) (turnover ts i) (shifted (s .start) (getD rs i 0))
 
 -- the key of unit j is below that of unit i
 unfoldable pub keyLess : List ℕ → List ℕ → List ℕ → Setting → ℕ → ℕ → Bool

@@ -1,4 +1,4 @@
-// Random numbers and keys (document 01, "Draw"; 001, formulas 21 and 22). A key is a fraction of two 64-bit products, compared
+// Random numbers and keys (document 01, "Draw"; 001, formulas 21 and 22; document 02, [8]). A key is a fraction of two 64-bit products, compared
 // exactly by crate `draw_fraction`; what limits of the frame make the products fit is asked for in `requires`.
 use draw_fraction::Fraction;
 use limits::RANDOM_RANGE;
@@ -6,11 +6,19 @@ ghost use mathlib.Core.Path.{_≡_};
 ghost use Prim.Native.Nat.{_-_, _*_, _<_, _≤_};
 ghost use lib.ListN.{length};
 ghost use Rattle.rules.specs.Limits.{mostTurnover, randomRange, mostPanel};
-ghost use Rattle.rules.specs.Draw.{shifted, keyDenominator};
+ghost use Rattle.rules.specs.Draw.{shifted};
+ghost use Rattle.draw_key.specs.Methods.{takenOff, denominatorBy};
 ghost use Rattle.draw_key.specs.Units.{Units, UnitKey};
 
-// What every key of a draw reads besides its unit: the start s, the number n to sample and the rest turnover X.
+// Whose key: that of the Pareto draw, or that of sequential Poisson sampling (document 02, [8]).
+pub enum Method {
+    Pareto,
+    SequentialPoisson,
+}
+
+// What every key of a draw reads besides its unit: the method, the start s, the number n to sample and the rest turnover X.
 pub struct Setting {
+    pub method: Method,
     pub start: u32,
     pub n: usize,
     pub rest: u64,
@@ -35,6 +43,17 @@ impl Permanent {
     }
 }
 
+// What a Pareto key takes off X and off 1,000,000. A sequential Poisson key takes nothing off: it is r × X over 1,000,000 × turnover, which is r over
+// turnover times a factor that all keys have, so that both keys are one fraction.
+pub fn taken_off(method: Method, amount: u64) -> u64
+    ensures { λ r. ⌜ r ≡ takenOff method amount ⌝ }
+{
+    match method {
+        Method::Pareto => amount,
+        Method::SequentialPoisson => 0,
+    }
+}
+
 // X − n × turnover: the part of a key that no start changes, so that a rotation computes it once a unit.
 pub fn gap(turnover: u64, rest: u64, size: u64) -> u64
     requires { ⌜ (turnover ≤ mostTurnover) × (size ≤ mostPanel) ⌝ }
@@ -47,13 +66,14 @@ pub fn gap(turnover: u64, rest: u64, size: u64) -> u64
     rest - reached
 }
 
-// "r × (X − n × turnover) over (1,000,000 − r) × turnover" (formula 22 without the common factor n), where the gap is known.
-pub fn key_over(turnover: u64, r: Shifted, gap: u64) -> Fraction
+// "r × (X − n × turnover) over (1,000,000 − r) × turnover" (formula 22 without the common factor n), where the gap is known; for sequential Poisson
+// 1,000,000 stays whole.
+pub fn key_over(method: Method, turnover: u64, r: Shifted, gap: u64) -> Fraction
     requires { ⌜ (turnover ≤ mostTurnover) × (r .0 < randomRange) × (gap ≤ mostTurnover) ⌝ }
-    ensures { λ k. ⌜ (k .num ≡ r .0 * gap) × (k .den ≡ keyDenominator turnover (r .0)) ⌝ }
+    ensures { λ k. ⌜ (k .num ≡ r .0 * gap) × (k .den ≡ denominatorBy method turnover (r .0)) ⌝ }
 {
     let near = r.0 as u64;
-    let far = (RANDOM_RANGE - r.0) as u64;
+    let far = (RANDOM_RANGE as u64) - taken_off(method, near);
     Fraction {
         num: near * gap,
         den: far * turnover,
@@ -67,5 +87,6 @@ pub fn unit_key(turnovers: &[u64], randoms: &[u32], gaps: &[u64], s: Setting, i:
 {
     let random = Permanent(randoms[i]);
     let shifted = random.shift(s.start);
-    key_over(turnovers[i], shifted, gaps[i])
+    let method = s.method;
+    key_over(method, turnovers[i], shifted, gaps[i])
 }

@@ -12,7 +12,7 @@ use Rattle.refusals.specs.Number.{numberOf}
 use Rattle.rules.specs.Limits.{mostHeld}
 use Rattle.rules.specs.Refusals.{judged, written}
 use Rattle.rules.specs.TakeAll.{Frame, Group, frame, takeAllGroup}
-use Rattle.rules.specs.Draw.{Drawn, panelNumbers, panelWeights, frameRefusal, drawRefusal, drawAnswer, drawNumbers, drawWeights}
+use Rattle.rules.specs.Draw.{Method, Drawn, panelNumbers, panelWeights, frameRefusal, drawRefusal, drawAnswer, drawNumbersBy, drawWeightsBy, drawNumbers, drawWeights}
 use Rattle.rules.specs.Stream.{Command}
 use Rattle.rules.specs.Job.{onDraw, step}
 use Rattle.rules.proofs.Tests.{or-off}
@@ -84,16 +84,16 @@ module _ (j : Job) (z start : ℕ) (places : Sized j) (units : ℕ) (e : units �
     pub draw-accepted : (n x : ℕ) (left : Job) (ns ws : List ℕ) → told ≡ DrawAnswer.Drawn n x → ns ≡ drawNumbers part z start (each 0) (each 0)
         → ws ≡ drawWeights part z start (each 0) (each 0) → left ≡ panelHeld j z ws
         → Steps j (Command.draw z start) (record { job = left; says = Panel; numbers = ns })
-    unfolding step onDraw drawNumbers drawWeights
+    unfolding step onDraw drawNumbersBy drawWeightsBy
     draw-accepted n x left ns ws t d w l =
         let none = given-tells (frameRefusal f z start) answer (record { sampleSize = n; rest = x }) (answered _ t) .0 in
         let ok : drawRefusal f z start (each 0) (each 0) ≡ 0 = room f z start ∙ none in
         let all : (news : List ℕ) → written (drawRefusal f z start (each 0) (each 0)) news (each 0) ≡ written 0 news (each 0) =
         λ news. ap (λ (m : ℕ). written m news (each 0)) ok in
-        let ns-are = d ∙ ap (λ (y : Frame). drawNumbers y z start (each 0) (each 0)) same-frame ∙ all (panelNumbers f g start) in
-        let ws-are = w ∙ ap (λ (y : Frame). drawWeights y z start (each 0) (each 0)) same-frame ∙ all (panelWeights f g start) in
+        let ns-are = d ∙ ap (λ (y : Frame). drawNumbers y z start (each 0) (each 0)) same-frame ∙ all (panelNumbers Method.pareto f g start) in
+        let ws-are = w ∙ ap (λ (y : Frame). drawWeights y z start (each 0) (each 0)) same-frame ∙ all (panelWeights Method.pareto f g start) in
         let is-next : left ≡ jobNext j (Command.draw z start) = l ∙ ap (panelHeld j z) ws-are in
-        let shown-ns = front (panelNumbers f g start) (each 0) z (z-numbers f z start none) in
-        let shown-ws = front (panelWeights f g start) (each 0) z (z-weights f z start none) in
+        let shown-ns = front (panelNumbers Method.pareto f g start) (each 0) z (z-numbers Method.pareto f z start none) in
+        let shown-ws = front (panelWeights Method.pareto f g start) (each 0) z (z-weights Method.pareto f z start none) in
         accepted-step j _ (frameRefusal f z start) _ _ _ refl none
-        (panel-held j z (panelWeights f g start) (z-weights f z start none) (accepted f z start none .units .sizeFew)) is-next (cc) ns-are
+        (panel-held j z (panelWeights Method.pareto f g start) (z-weights Method.pareto f z start none) (accepted f z start none .units .sizeFew)) is-next (cc) ns-are

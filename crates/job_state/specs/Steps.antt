@@ -8,7 +8,7 @@ use lib.ListN.{set, replicate}
 use Rattle.rules.specs.Limits.{mostHeld, mostPanel, shareScale}
 use Rattle.rules.specs.Refusals.{Judged, written}
 use Rattle.rules.specs.TakeAll.{takeAllGroup}
-use Rattle.rules.specs.Draw.{panelWeights}
+use Rattle.rules.specs.Draw.{Method, panelWeights}
 use Rattle.rules.specs.Chain.{Call, shared, openRecord, accepted}
 use Rattle.rules.specs.Stream.{Command}
 use Rattle.rules.specs.Job as rules
@@ -125,7 +125,7 @@ chainHeld j c =
 abbrev pub panelDrawn : Job → ℕ → ℕ → Job
 panelDrawn j z start =
     let f = jobOf j .units in
-    panelHeld j z (written 0 (panelWeights f (takeAllGroup (f .turnovers) z) start) (each 0))
+    panelHeld j z (written 0 (panelWeights Method.pareto f (takeAllGroup (f .turnovers) z) start) (each 0))
 
 -- after an open, a quarter or a close: the chain that it leaves
 abbrev pub chainOpened : Job → ℕ → Job

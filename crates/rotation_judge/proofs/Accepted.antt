@@ -1,32 +1,40 @@
--- What refusals 6 and 7 leave of the old panel, the fraction and the leavers' buffer.
+-- What refusals 6, 7, 25 and 26 leave of the old panel, the fraction, the births and the leavers' buffer.
 use mathlib.Core.Path.{_≡_}
-use mathlib.Core.Bool.{true}
+use mathlib.Core.Bool.{true, false}
 use mathlib.Core.List.{List}
-use Prim.Native.Nat.{ℕ, _≤_}
+use Prim.Native.Nat.{ℕ, _+_, _≤_}
 use lib.ListN.{length}
 use borrow.Author.Tests.{ltb-false, not-false}
 use Rattle.rules.specs.Limits.{fractionScale, mostPanel}
 use Rattle.rules.specs.Lists.{rising}
-use Rattle.rules.specs.Rotation.{badOldPanel, oldPanelRefusal}
+use Rattle.rules.specs.Rotation.{Births, shortLeavers, badOldPanel, badPrevious, badBirths, listsRefusal}
 use Rattle.rules.proofs.Tests.{or-false}
 use Rattle.rules.proofs.Refusals.{refuse-none, then-none}
 
-pub record OldAccepted (panel : List ℕ) (fraction : ℕ) (buffer : List ℕ) : Type 0 where
-  pub long : length panel ≤ length buffer
+pub record ListsAccepted (panel : List ℕ) (fraction : ℕ) (b : Births) (buffer : List ℕ) : Type 0 where
+  pub long : length panel + length (b .units) ≤ length buffer
   pub scaled : fraction ≤ fractionScale
   pub most : length panel ≤ mostPanel
   pub rises : rising panel ≡ true
+  pub previous : badPrevious (b .size) (b .rest) ≡ false
+  pub births-rise : rising (b .units) ≡ true
 
-pub old-accepted :
-    (panel : List ℕ) (fraction : ℕ) (buffer : List ℕ) → oldPanelRefusal panel fraction buffer ≡ 0 → OldAccepted panel fraction buffer
-unfolding oldPanelRefusal badOldPanel
-old-accepted panel fraction buffer none =
-    let n = then-none _ _ none in
-    let old = or-false _ _ (refuse-none _ 6 (n .1)) in
+pub lists-accepted :
+    (numbers panel : List ℕ) (fraction : ℕ) (b : Births) (buffer : List ℕ)
+    → listsRefusal numbers panel fraction b buffer ≡ 0 → ListsAccepted panel fraction b buffer
+unfolding listsRefusal shortLeavers badOldPanel badBirths
+lists-accepted numbers panel fraction b buffer none =
+    let room = then-none _ _ none in
+    let old-panel = then-none _ _ (room .1) in
+    let later = then-none _ _ (old-panel .1) in
+    let old = or-false _ _ (refuse-none _ 6 (old-panel .0)) in
     let sizes = or-false _ _ (old .0) in
+    let units = or-false _ _ (or-false _ _ (refuse-none _ 25 (later .1)) .0) in
     record {
-      long = ltb-false _ _ (refuse-none _ 5 (n .0));
+      long = ltb-false _ _ (refuse-none _ 5 (room .0));
       scaled = ltb-false _ _ (sizes .0);
       most = ltb-false _ _ (sizes .1);
       rises = not-false _ (old .1);
+      previous = refuse-none _ 24 (later .0);
+      births-rise = not-false _ (units .1);
     }

@@ -1,14 +1,17 @@
-// What a rotation refuses before it looks at any step (document 01, refusals 1 to 7): the frame with the old start, the leavers'
-// buffer, and the old panel with the fraction, in this order.
+// What a rotation refuses before it looks at any step (document 01, refusals 1 to 7; document 02, [2], refusals 25 and 26): the frame with the old start, the
+// leavers' buffer, the old panel with the fraction, the previous n' and X', and the births, in this order.
 use limits::FRACTION_SCALE;
 use limits::MOST_PANEL;
 use refusals::Refusal;
 use refusals::Verdict;
+use rotation_births::Previous;
 ghost use mathlib.Core.Path.{_≡_};
+ghost use mathlib.Core.Bool.{true};
 ghost use Rattle.rules.specs.Refusals.{_then_};
+ghost use Rattle.rules.specs.Lists.{rising};
 ghost use Rattle.rules.specs.TakeAll.{frame};
 ghost use Rattle.rules.specs.Draw.{frameRefusal};
-ghost use Rattle.rules.specs.Rotation.{badOldPanel, oldPanelRefusal};
+ghost use Rattle.rules.specs.Rotation.{born, shortLeavers, badOldPanel, listsRefusal};
 ghost use Rattle.refusals.specs.Number.{verdictOf};
 
 // 7: "f over 1,000, or old panel over 100 or not rising"
@@ -24,36 +27,65 @@ fn bad_old_panel(panel: &[u32], fraction: u32) -> bool
     !frame::rising(panel)
 }
 
-// Refusals 6 and 7: the leavers' buffer, and the old panel with the fraction.
-fn judge_old(panel: &[u32], fraction: u32, leavers: &[u32]) -> Verdict
-    ensures { λ r. ⌜ verdictOf r ≡ oldPanelRefusal (now (panel .entry)) fraction (now (leavers .entry)) ⌝ }
+// 6: the leavers' buffer against "the lengths of both lists, old panel and births, added". No sum is made: what the old panel leaves of the buffer is
+// held against the births.
+fn short_leavers(panel: &[u32], births: &[u32], leavers: &[u32]) -> bool
+    ensures { λ r. ⌜ r ≡ shortLeavers (now (panel .entry)) (now (births .entry)) (now (leavers .entry)) ⌝ }
 {
     if leavers.len() < panel.len() {
+        return true;
+    }
+    leavers.len() - panel.len() < births.len()
+}
+
+// Refusals 6, 7, 25 and 26, in this order, over a frame whose numbers rise.
+fn judge_lists(
+    numbers: &[u32],
+    panel: &[u32],
+    fraction: u32,
+    previous: Previous,
+    births: &[u32],
+    leavers: &[u32],
+) -> Verdict
+    requires { ⌜ rising (now numbers) ≡ true ⌝ }
+    ensures { λ r.
+        ⌜ verdictOf r ≡ listsRefusal (now (numbers .entry)) (now (panel .entry)) fraction
+        (born (previous .n) (previous .rest) (now (births .entry))) (now (leavers .entry)) ⌝ }
+{
+    if short_leavers(panel, births, leavers) {
         return Verdict::Refused(Refusal::ResultBuffer);
     }
     if bad_old_panel(panel, fraction) {
         return Verdict::Refused(Refusal::OldPanel);
     }
+    if rotation_births::bad_previous(previous.n, previous.rest) {
+        return Verdict::Refused(Refusal::PreviousSample);
+    }
+    if rotation_births::bad_births(numbers, births) {
+        return Verdict::Refused(Refusal::Births);
+    }
     Verdict::Accepted
 }
 
-// Refusals 1 to 7: the lowest that applies.
+// Refusals 1 to 7, 25 and 26: the first that applies. The old start is the previous draw's.
 pub fn judge(
     numbers: &[u32],
     turnovers: &[u64],
     randoms: &[u32],
     z: usize,
-    start: u32,
     panel: &[u32],
     fraction: u32,
+    previous: Previous,
+    births: &[u32],
     leavers: &[u32],
 ) -> Verdict
     ensures { λ r.
-        ⌜ verdictOf r ≡ (frameRefusal (frame (now (numbers .entry)) (now (turnovers .entry)) (now (randoms .entry))) z start
-        then oldPanelRefusal (now (panel .entry)) fraction (now (leavers .entry))) ⌝ }
+        ⌜ verdictOf r ≡ (frameRefusal (frame (now (numbers .entry)) (now (turnovers .entry)) (now (randoms .entry))) z (previous .start)
+        then listsRefusal (now (numbers .entry)) (now (panel .entry)) fraction
+        (born (previous .n) (previous .rest) (now (births .entry))) (now (leavers .entry))) ⌝ }
 {
-    match frame::judge(numbers, turnovers, randoms, z, start) {
+    match frame::judge(numbers, turnovers, randoms, z, previous.start) {
         Verdict::Refused(why) => Verdict::Refused(why),
-        Verdict::Accepted => judge_old(panel, fraction, leavers),
+        Verdict::Accepted => judge_lists(numbers, panel, fraction, previous, births, leavers),
     }
 }

@@ -11,9 +11,9 @@ use Rattle.rules.specs.Rotation.{startAt}
 use Rattle.draw_key.specs.declared.Setting.{Setting}
 use Rattle.draw_key.specs.Units.{sampledOf}
 
--- the same n and X under another start, and under the start that step k leads to
+-- the same method, n and X under another start, and under the start that step k leads to
 abbrev pub under : Setting → ℕ → Setting
-under s start = record { start = start; n = s .n; rest = s .rest }
+under s start = record { method = s .method; start = start; n = s .n; rest = s .rest }
 
 abbrev pub settingAt : Setting → ℕ → Setting
 settingAt s k = under s (startAt (s .start) k)

@@ -18,7 +18,9 @@ pub fn setting_at(s: Setting, k: u32) -> Setting
     ensures { λ r. ⌜ r ≡ settingAt s k ⌝ }
 {
     let old = s.start;
+    let method = s.method;
     Setting {
+        method,
         start: (old + STEP_LENGTH * k) % RANDOM_RANGE,
         n: s.n,
         rest: s.rest,

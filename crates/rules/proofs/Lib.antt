@@ -5,4 +5,6 @@ pub mod Chains
 pub mod Reference
 pub mod Border
 pub mod Leavers
+pub mod NoBirths
+pub mod Births
 pub mod Kept

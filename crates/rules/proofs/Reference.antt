@@ -10,9 +10,9 @@ use Rattle.rules.specs.Refusals.{Judged, refuse, _then_}
 use Rattle.rules.specs.Lists.{sum, products, scaled, anyOf, anyPair, risesFrom, rising, elem}
 use Rattle.rules.specs.Selection.{sumOf, count, byKey, rank, firsts, listed, leastFrom}
 use Rattle.rules.specs.TakeAll.{Frame, Taken, frame, moreTurnover, larger, largest, restWithout, reachesRest, fits, takeAllSize, restTurnover, takeAllGroup, baseWeight, badTurnovers, badSize, badCount, takeAllRefusal, takeAllAnswer, takeAllMarks}
-use Rattle.rules.specs.Draw.{Drawn, shifted, keyNumerator, keyDenominator, fractionBelow, keyBelow, sampledBy, drawnBy, panelNumbers, panelWeights, badLists, badRandom, frameRefusal, drawRefusal, drawAnswer, drawNumbers, drawWeights}
+use Rattle.rules.specs.Draw.{Drawn, shifted, keyNumerator, keyDenominator, fractionBelow, keyBelow, sampledBy, drawnBy, panelNumbers, panelWeights, badLists, badRandom, frameRefusal, drawRefusal, drawAnswer, drawNumbersBy, drawWeightsBy, drawNumbers, drawWeights}
 use Rattle.rules.specs.Order.{put, ordered}
-use Rattle.rules.specs.Rotation.{Rotated, member, members, required, startAt, leaves, suffices, leastStep, leavers, badOldPanel, oldPanelRefusal, rotationRefusal, rotationAnswer, rotationLeavers}
+use Rattle.rules.specs.Rotation.{Rotated, born, oldMember, withinPrevious, joins, member, members, required, startAt, leaves, suffices, leastStep, leavers, shortLeavers, badOldPanel, badPrevious, badBirths, listsRefusal, rotationRefusal, rotationAnswerBy, rotationLeaversBy, rotationAnswer, rotationLeavers}
 use Rattle.rules.specs.Chain.{Chain, Call, held, badIndex, badRelative, badWeight, badUnits, badOpenLists, badBase, badShares, openInputRefusal, weightRefusal, openRefusal, openRecord, link, figureAt, broken, callInputRefusal, figureRefusal, callRefusal, callAnswer}
 use Rattle.rules.specs.Direct.{Direct, exactOpen, exactMoved, directOpen, directAfter, numerator, denominator}
 use Rattle.rules.specs.Total.{badSectors, totalOf, totalAnswer}
@@ -107,9 +107,10 @@ pub record ReferenceTable : Type 0 where
   k5-group : takeAllAnswer (5 ∷ []) 1 marks ≡ taken 1 0 0
   k5-marks : takeAllMarks (5 ∷ []) 1 marks ≡ 1 ∷ 9 ∷ 9 ∷ 9 ∷ 9 ∷ 9 ∷ []
   k5-weight : drawWeights (frame (7 ∷ []) (5 ∷ []) (0 ∷ [])) 1 0 buffer buffer ≡ 5 ∷ 9 ∷ 9 ∷ 8 ∷ []
-  -- K6: old panel 13 and 15, old start 0, f = 500: k = 101, leaver 15, new panel 11, 12, 13
-  k6-answer : rotationAnswer (frameA 100000) 3 0 (13 ∷ 15 ∷ []) 500 buffer ≡ rotated 101 101000 1
-  k6-leavers : rotationLeavers (frameA 100000) 3 0 (13 ∷ 15 ∷ []) 500 buffer ≡ 15 ∷ 9 ∷ 9 ∷ 8 ∷ []
+  -- K6: old panel 13 and 15, old start 0, f = 500: k = 101, leaver 15, new panel 11, 12, 13; no births, with n' = 0 and X' = 0 and with K1's n and X
+  k6-answer : rotationAnswer (frameA 100000) 3 0 (13 ∷ 15 ∷ []) 500 (born 0 0 []) buffer ≡ rotated 101 101000 1
+  k6-leavers : rotationLeavers (frameA 100000) 3 0 (13 ∷ 15 ∷ []) 500 (born 0 0 []) buffer ≡ 15 ∷ 9 ∷ 9 ∷ 8 ∷ []
+  k6-previous : rotationAnswer (frameA 100000) 3 0 (13 ∷ 15 ∷ []) 500 (born 2 30000000 []) buffer ≡ rotated 101 101000 1
   k6-panel : drawNumbers (frameA 100000) 3 101000 buffer buffer ≡ 11 ∷ 12 ∷ 13 ∷ 8 ∷ []
   -- K7, K8: the C and the Q figure of the listing, whose output is exact
   k7-k8 : output streamA ≡ linesA
@@ -129,8 +130,9 @@ pub reference-table : ReferenceTable
 unfolding _or_ _and_ outside refuse _then_ sum products scaled anyOf anyPair risesFrom rising elem
     sumOf count byKey rank firsts listed leastFrom put ordered
     moreTurnover larger largest restWithout reachesRest fits takeAllSize restTurnover takeAllGroup baseWeight badTurnovers badSize badCount takeAllRefusal takeAllAnswer takeAllMarks
-    shifted keyNumerator keyDenominator fractionBelow keyBelow sampledBy drawnBy panelNumbers panelWeights badLists badRandom frameRefusal drawRefusal drawAnswer drawNumbers drawWeights
-    member members required startAt leaves suffices leastStep leavers badOldPanel oldPanelRefusal rotationRefusal rotationAnswer rotationLeavers
+    shifted keyNumerator keyDenominator fractionBelow keyBelow sampledBy drawnBy panelNumbers panelWeights badLists badRandom frameRefusal drawRefusal drawAnswer drawNumbersBy drawWeightsBy
+    oldMember withinPrevious joins member members required startAt leaves suffices leastStep leavers shortLeavers badOldPanel badPrevious badBirths listsRefusal
+    rotationRefusal rotationAnswerBy rotationLeaversBy
     held badIndex badRelative badWeight badUnits badOpenLists badBase badShares openInputRefusal weightRefusal openRefusal openRecord link figureAt broken callInputRefusal figureRefusal callRefusal callAnswer
     exactOpen exactMoved directOpen numerator denominator badSectors totalOf totalAnswer
     bigEndian operandsOf widthOf commandOf readingRefusal reading restOf digitsOn decimalOn lineOf lineOf2 panelLines
@@ -153,6 +155,7 @@ reference-table =
       k5-weight = refl;
       k6-answer = refl;
       k6-leavers = refl;
+      k6-previous = refl;
       k6-panel = refl;
       k7-k8 = refl;
       k8-direct = refl;

@@ -7,7 +7,7 @@ use lib.Dec.{ltb, leb}
 use Rattle.rules.specs.Limits.{shareScale, mostStream, mostHeld}
 use Rattle.rules.specs.Refusals.{Judged, refuse, _then_, judged, stays}
 use Rattle.rules.specs.TakeAll.{Frame, frame, takeAllGroup}
-use Rattle.rules.specs.Draw.{panelNumbers, panelWeights, frameRefusal}
+use Rattle.rules.specs.Draw.{Method, panelNumbers, panelWeights, frameRefusal}
 use Rattle.rules.specs.Chain.{Chain, Call, relatives, shared, openRefusal, openRecord, callRefusal, figureOf, accepted}
 use Rattle.rules.specs.Stream.{Command, Front, reading, restOf}
 use Rattle.rules.specs.Lines.{panelLines, quarterLine, closeLine, refusalLine}
@@ -69,8 +69,8 @@ withPanel j z weights =
 unfoldable pub onDraw : Job → ℕ → ℕ → Step
 onDraw j z start =
     let g = takeAllGroup (j .units .turnovers) z in
-    let weights = panelWeights (j .units) g start in
-    stepBy (frameRefusal (j .units) z start) j (withPanel j z weights) (panelDrawn (panelNumbers (j .units) g start) weights)
+    let weights = panelWeights Method.pareto (j .units) g start in
+    stepBy (frameRefusal (j .units) z start) j (withPanel j z weights) (panelDrawn (panelNumbers Method.pareto (j .units) g start) weights)
 
 -- 18: "place not below panel size". "Values of … shares and relatives are judged by the draw, open, quarter or close that uses them."
 unfoldable pub placeRefusal : Job → ℕ → ℕ

@@ -4,6 +4,7 @@ pub mod Places
 pub mod Least
 pub mod TakeAll
 pub mod Panel
+pub mod Smallest
 pub mod Listed
 pub mod Segment
 pub mod Held

@@ -1,3 +1,4 @@
 pub mod Ranked
 pub mod Held
 pub mod Marked
+pub mod Smallest

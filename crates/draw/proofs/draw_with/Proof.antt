@@ -42,8 +42,8 @@ module _ (c : tie.After-fill) where
 
   drawing :
       let a = entry group .args in
-      panels.Drawing (frame (a .numbers .now) (a .turnovers .now) (a .randoms .now)) (a .z) (a .start) (marks group)
-      (c .fill .last .1 .1 .1 .1 .0) (group .find-group .result)
+      panels.Drawing (a .method) (frame (a .numbers .now) (a .turnovers .now) (a .randoms .now)) (a .z) (a .start) (marks group)
+      (c .fill .last .1 .1 .1 .1 .1 .0) (group .find-group .result)
   drawing =
       let k = ok (entry group) in
       record { none = k .none; ok = k .frameOk; group-is = group .find-group .ensures .0; filled = c .fill .ensures }

@@ -6,10 +6,11 @@ use Prim.Native.Nat.{ℕ, _*_, _<_}
 use lib.ListN.{getD}
 use Rattle.rules.specs.Limits.{randomRange}
 use Rattle.rules.specs.TakeAll.{turnover}
-use Rattle.rules.specs.Draw.{shifted, keyDenominator}
+use Rattle.rules.specs.Draw.{shifted}
 use Rattle.draw_fraction.specs.declared.Fraction.{Fraction}
+use Rattle.draw_key.specs.Methods.{denominatorBy}
 use Rattle.draw_key.specs.Units.{numOf, denOf, UnitKey}
-use Rattle.draw_key.proofs.Keys.{shifted-low, denominator-positive}
+use Rattle.draw_key.proofs.Keys.{shifted-low, by-positive}
 use Rattle.draw_key.proofs.unit_key.Statement.{statement}
 use Rattle.draw_key.proofs.unit_key.Tie as tie
 
@@ -30,13 +31,13 @@ module _ (s : tie.Start) where
 
   -- the key from its products
   key :
-      (f : Fraction) (n : ℕ) → n ≡ r → (f .num ≡ n * getD (s .args .gaps .now) i 0) × (f .den ≡ keyDenominator t n)
+      (f : Fraction) (n : ℕ) → n ≡ r → (f .num ≡ n * getD (s .args .gaps .now) i 0) × (f .den ≡ denominatorBy (s .args .s .method) t n)
       → UnitKey (s .args .turnovers .now) (s .args .randoms .now) (s .args .gaps .now) (s .args .s) i f
   unfolding numOf denOf
   key f n e k = record {
     num-is = k .0 ∙ ap (λ (m : ℕ). m * getD (s .args .gaps .now) i 0) e;
-    den-is = k .1 ∙ ap (λ (m : ℕ). keyDenominator t m) e;
-    den-some = rw (k .1, e) (denominator-positive t r (s .pre .0 .positive i (s .pre .1)) low);
+    den-is = k .1 ∙ ap (λ (m : ℕ). denominatorBy (s .args .s .method) t m) e;
+    den-some = rw (k .1, e) (by-positive (s .args .s .method) t r (s .pre .0 .positive i (s .pre .1)) low);
   }
 
 pub unit-key-spec : {M : Type 1} → statement M

@@ -2,9 +2,9 @@
 use borrow.Author.Needs.{needs}
 use borrow.Author.Tests.{lt-ltb, le-ltb}
 use Rattle.rules.specs.Tests.{_and_}
-use Rattle.rotation_members.specs.Passed.{stands}
-use Rattle.rotation_members.proofs.stands_at.Statement.{statement}
-use Rattle.rotation_members.proofs.stands_at.Tie as tie
+use Rattle.rotation_seek.specs.Passed.{stands}
+use Rattle.rotation_seek.proofs.stands_at.Statement.{statement}
+use Rattle.rotation_seek.proofs.stands_at.Tie as tie
 
 returns : tie.Need-returns
 unfolding stands _and_

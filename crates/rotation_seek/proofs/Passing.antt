@@ -15,7 +15,7 @@ use Rattle.rules.specs.Tests.{_and_}
 use Rattle.rules.specs.Lists.{rising, elem}
 use Rattle.rules.proofs.Tests.{by-test, by-order, and-on, and-off, and-left, and-right}
 use Rattle.rules.proofs.Lists.{rising-below, elem-here, elem-next, elem-end, elem-low}
-use Rattle.rotation_members.specs.Passed.{Passed, Reached, stands}
+use Rattle.rotation_seek.specs.Passed.{Passed, Reached, stands, behind}
 
 -- nothing is passed yet
 pub passed-none : (list : List ℕ) (x : ℕ) → Passed list 0 x
@@ -40,6 +40,11 @@ passed-elem list (suc j) x p =
     let next = elem-next x list j (omega arith) (λ e. absurd (omega (arith, p .below j (omega arith)))) in
     let step : elem x (drop (suc j) list) ≡ elem x (drop j list) = rw (sym (add-one j)) next in
     step ∙ passed-elem list j x (record { within = omega arith; below = λ k l. p .below k (omega arith) })
+
+-- a number stands within the list
+pub stands-within : (list : List ℕ) (j x : ℕ) → stands list j x ≡ true → j < length list
+unfolding stands
+stands-within list j x e = ltb-true _ _ (and-left _ _ e)
 
 -- THE PLACE TELLS: in a rising list a number stands where the search for it stops, or nowhere
 module _ {list : List ℕ} {from x r : ℕ} (h : Reached list from x r) where
@@ -66,39 +71,48 @@ module _ {list : List ℕ} {from x r : ℕ} (h : Reached list from x r) where
 
   pub stands-there : stands list r x ≡ true → (r < length list) × (getD list r 0 ≡ x)
   unfolding stands
-  stands-there e = (ltb-true _ _ (and-left _ _ e), sym (eqb-true _ _ (and-right (ltb r (length list)) _ e)))
+  stands-there e = (stands-within list r x e, sym (eqb-true _ _ (and-right (ltb r (length list)) _ e)))
 
--- where the pass stands: at unit i of the frame and place j of the other list, with no more found than places passed
-pub record Standing (numbers list : List ℕ) (i j found : ℕ) : Type 0 where
+-- where the pass stands: at place i of the one list and place j of the other
+pub record Standing (numbers list : List ℕ) (i j : ℕ) : Type 0 where
   pub in-frame : i ≤ length numbers
   pub in-list : j ≤ length list
-  pub fewer : found ≤ j
   pub passed : i < length numbers → Passed list j (getD numbers i 0)
 
-pub stand-first : (numbers list : List ℕ) → Standing numbers list 0 0 0
-stand-first numbers list = record { in-frame = zero-le; in-list = zero-le; fewer = zero-le; passed = λ l. passed-none list _ }
+pub stand-first : (numbers list : List ℕ) → Standing numbers list 0 0
+stand-first numbers list = record { in-frame = zero-le; in-list = zero-le; passed = λ l. passed-none list _ }
 
-module _ {numbers list : List ℕ} {i j found r : ℕ} (at : Standing numbers list i j found) (up : rising numbers ≡ true) (l : i < length numbers)
-    (h : Reached list j (getD numbers i 0) r) where
+module _ {numbers list : List ℕ} {i j r : ℕ} (at : Standing numbers list i j) (up : rising numbers ≡ true) (l : i < length numbers) (h : Reached list j (getD numbers i 0) r) where
   next-above : i + 1 < length numbers → getD numbers i 0 < getD numbers (i + 1) 0
   next-above m = rising-below numbers up i (i + 1) (omega arith) m
 
-  -- the unit is not in the list
-  pub stand-on : Standing numbers list (i + 1) r found
-  stand-on = record {
-    in-frame = omega arith;
-    in-list = h .passed .within;
-    fewer = omega (arith, at .fewer, h .onward);
-    passed = λ m. passed-on (h .passed) _ (next-above m);
-  }
+  -- the search for the next number may go on where this one stopped
+  pub stand-on : Standing numbers list (i + 1) r
+  stand-on = record { in-frame = omega arith; in-list = h .passed .within; passed = λ m. passed-on (h .passed) _ (next-above m) }
 
-  -- it is, and is found or not
-  pub stand-over : (more : ℕ) → stands list r (getD numbers i 0) ≡ true → more ≤ found + 1 → Standing numbers list (i + 1) (r + 1) more
-  stand-over more e few =
+  -- or behind it
+  pub stand-behind : Standing numbers list (i + 1) (behind list r (getD numbers i 0))
+  unfolding behind
+  stand-behind =
+      by-test (stands list r (getD numbers i 0))
+      (λ e.
       let s = stands-there h e in
-      record {
+      rw e (record {
         in-frame = omega arith;
         in-list = omega (arith, s .0);
-        fewer = omega (arith, at .fewer, h .onward);
         passed = λ m. let a = next-above m in passed-more (h .passed) _ (omega arith) (s .0) (omega (arith, s .1));
-      }
+      }))
+      (λ e. rw e stand-on)
+
+-- which passes a place more where the number stands, and none where it does not
+module _ (list : List ℕ) (r x : ℕ) where
+  pub behind-one : stands list r x ≡ true → behind list r x ≡ r + 1
+  unfolding behind
+  behind-one e = rw e
+
+  pub behind-none : stands list r x ≡ false → behind list r x ≡ r
+  unfolding behind
+  behind-none e = rw e
+
+  pub behind-on : r ≤ behind list r x
+  behind-on = by-test (stands list r x) (λ e. omega (arith, behind-one e)) (λ e. omega (arith, behind-none e))

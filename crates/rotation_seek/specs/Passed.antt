@@ -1,7 +1,7 @@
 -- Two rising lists gone through side by side: how far the second is passed by a number of the first.
-use mathlib.Core.Bool.{Bool}
+use mathlib.Core.Bool.{Bool, cond}
 use mathlib.Core.List.{List}
-use Prim.Native.Nat.{ℕ, _≤_, _<_}
+use Prim.Native.Nat.{ℕ, _+_, _≤_, _<_}
 use lib.ListN.{length, getD}
 use lib.Dec.{ltb, eqb}
 use Rattle.rules.specs.Tests.{_and_}
@@ -20,3 +20,7 @@ pub record Reached (list : List ℕ) (from x r : ℕ) : Type 0 where
 -- x stands at place j
 unfoldable pub stands : List ℕ → ℕ → ℕ → Bool
 stands list j x = ltb j (length list) and eqb x (getD list j 0)
+
+-- the place behind x where it stands at place j, else j
+unfoldable pub behind : List ℕ → ℕ → ℕ → ℕ
+behind list j x = cond (stands list j x) (j + 1) j

@@ -3,10 +3,10 @@ use Prim.Native.Nat.{_-_, _≤_}
 use native.Mathlib.Omega.{arith}
 use lib.ListN.{length}
 use borrow.Author.Needs.{needs}
-use Rattle.rotation_members.specs.Passed.{Passed}
-use Rattle.rotation_members.proofs.Passing.{passed-more}
-use Rattle.rotation_members.proofs.seek.Statement.{statement}
-use Rattle.rotation_members.proofs.seek.Tie as tie
+use Rattle.rotation_seek.specs.Passed.{Passed}
+use Rattle.rotation_seek.proofs.Passing.{passed-more}
+use Rattle.rotation_seek.proofs.seek.Statement.{statement}
+use Rattle.rotation_seek.proofs.seek.Tie as tie
 
 abbrev Inv-loop : tie.InvT-loop
 Inv-loop list from number j₀ j = (from ≤ j) × Passed list j number
