@@ -7,6 +7,7 @@
 #include <string>
 
 #include "baseline.hpp"
+#include "kept.hpp"
 #include "proved.hpp"
 
 namespace {
@@ -132,6 +133,7 @@ void measure() {
         const uint32_t fraction = shape == Shape::Steady ? 1000 : 500;
         compare(row("rotate", shape, 16384, z), 3, [&](const Engine& engine) { return engine.rotate(frame, z, 0, old_panel, fraction); });
     }
+    kept::measure(faults);
     measure_import();
 }
 

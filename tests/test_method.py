@@ -12,7 +12,7 @@ from pathlib import Path
 
 import generate
 import library
-from independent import Refused, chain, frame, load, register, sample, sheet, stream, writing
+from independent import Refused, chain, frame, kept, load, register, sample, sheet, stream, writing
 
 TOP = Path(__file__).resolve().parent.parent
 TEXT = (TOP / "docs" / "METHOD.md").read_text()
@@ -123,6 +123,44 @@ def keys(numbers, turnovers, randoms, start, stratum):
         else:
             r = frame.shifted(randoms[place], start)
             yield f"unit {number}: r {r}, key {frame.key(r, turnovers[place], stratum.n, stratum.X)}"
+
+
+class TakeAllUnits(Example):
+    """numbers, turnovers, z, threshold, first, second, units"""
+
+    def reckon(self):
+        handed = (*self.lists("numbers", "turnovers"), self.one("z"), self.one("threshold"), *self.lists("first", "second", "units"))
+        answer, after = frame.take_all_units(*handed)
+        self.same(library.take_all_units(*handed), (answer, after))
+        refused = isinstance(answer, Refused)
+        self.answers(answer, said("units", after), **({} if refused else {"q": answer.q, "n": answer.n, "X": answer.X}))
+
+
+class KeptDraw(Example):
+    """numbers, turnovers, randoms, z, start, threshold, first, second, panel, weights"""
+
+    def reckon(self):
+        register = (*self.lists("numbers", "turnovers", "randoms"), self.one("z"), self.one("start"), self.one("threshold"))
+        handed = (*register, *self.lists("first", "second", "panel", "weights"))
+        answer, panel, weights = kept.draw(*handed)
+        self.same(library.kept_draw(*handed), (answer, panel, weights))
+        refused = isinstance(answer, Refused)
+        self.answers(answer, *facts_of(panel=panel, weights=weights), **({} if refused else {"n": answer.n, "X": answer.X}))
+
+
+class KeptRotate(Example):
+    """numbers, turnovers, randoms, z, start, old, f, n, X, births, threshold, first, second, leavers"""
+
+    def reckon(self):
+        register = (*self.lists("numbers", "turnovers", "randoms"), self.one("z"), self.one("start"), self.given["old"])
+        births = (self.one("f"), self.one("n"), self.one("X"), self.given["births"], self.one("threshold"))
+        handed = (*register, *births, *self.lists("first", "second", "leavers"))
+        answer, after = kept.rotate(*handed)
+        self.same(library.kept_rotate(*handed), (answer, after))
+        if isinstance(answer, Refused):
+            self.answers(answer, said("leavers", after))
+        else:
+            self.answers(answer, said("leavers", after), k=answer.k, start=answer.new_start, count=answer.count)
 
 
 class Rotate(Example):
@@ -330,6 +368,9 @@ KINDS = {
     "take-all": TakeAll,
     "draw": Draw,
     "rotate": Rotate,
+    "take-all-units": TakeAllUnits,
+    "draw-kept": KeptDraw,
+    "rotate-kept": KeptRotate,
     "chain": Chain,
     "total": Total,
     "sample": Sample,
@@ -474,8 +515,11 @@ def number_of(answer):
 
 ENTRIES = {
     "take-all": (generate.take_all_cases, lambda data: frame.take_all_entry(**data)[0]),
+    "take-all-units": (generate.take_all_units_cases, lambda data: frame.take_all_units(**data)[0]),
     "draw": (generate.draw_cases, lambda data: frame.draw(**data)[0]),
+    "draw-kept": (generate.kept_draw_cases, lambda data: kept.draw(**data)[0]),
     "rotate": (generate.rotate_cases, lambda data: frame.rotate(**data)[0]),
+    "rotate-kept": (generate.kept_rotate_cases, lambda data: kept.rotate(**data)[0]),
     "open": (generate.open_cases, lambda data: chain.open_chain(**data)),
     "quarter": (generate.quarter_cases, lambda data: chain.quarter(record_of(data), data["p"])[1]),
     "close": (generate.close_cases, lambda data: chain.close(record_of(data), data["p"])[1]),
@@ -579,6 +623,7 @@ WORDS = {
     21: [LIMIT["leastWeight"]],
     22: [LIMIT["mostWeight"]],
     23: INDEX,
+    30: [0, LIMIT["thresholdScale"], LIMIT["mostPanel"]],
     31: [LIMIT["mostSectors"], LIMIT["mostInterviews"]],
     32: [LIMIT["nameColumns"], LIMIT["lowestPrintable"], LIMIT["highestPrintable"], *INDEX, LIMIT["lineBytes"]],
     33: [LIMIT["stateRange"], 0, LIMIT["mostFrame"]],

@@ -2,7 +2,7 @@
 use draw_key::Method;
 ghost use mathlib.Core.Path.{_≡_};
 ghost use Rattle.rules.specs.TakeAll.{frame};
-ghost use Rattle.rules.specs.Draw.{Method, drawAnswer, drawNumbersBy, drawWeightsBy, drawNumbers, drawWeights};
+ghost use Rattle.rules.specs.Draw.{Method as KeyMethod, drawAnswer, drawNumbersBy, drawWeightsBy, drawNumbers, drawWeights};
 ghost use Rattle.draw.specs.Answer.{answerFrom};
 ghost use Rattle.c_draw.specs.Answer.{drawnFrom};
 
@@ -15,7 +15,7 @@ pub struct Drawn {
 }
 
 // The answer as C has it.
-fn shown(answer: draw::Answer) -> Drawn
+pub fn shown(answer: draw::Answer) -> Drawn
     ensures { λ r. ⌜ r ≡ drawnFrom (answerFrom answer) ⌝ }
 {
     match answer {
@@ -66,9 +66,9 @@ pub extern "C" fn vougecress_draw_poisson(
     ensures { λ r.
         ⌜ r ≡ drawnFrom (drawAnswer (frame (now (numbers .entry)) (now (turnovers .entry)) (now (randoms .entry))) z start (now (panel .entry)) (now (weights .entry))) ⌝ }
     ensures { λ _.
-        ⌜ now (panel .exit) ≡ drawNumbersBy Method.sequentialPoisson (frame (now (numbers .entry)) (now (turnovers .entry)) (now (randoms .entry))) z start (now (panel .entry)) (now (weights .entry)) ⌝ }
+        ⌜ now (panel .exit) ≡ drawNumbersBy KeyMethod.sequentialPoisson (frame (now (numbers .entry)) (now (turnovers .entry)) (now (randoms .entry))) z start (now (panel .entry)) (now (weights .entry)) ⌝ }
     ensures { λ _.
-        ⌜ now (weights .exit) ≡ drawWeightsBy Method.sequentialPoisson (frame (now (numbers .entry)) (now (turnovers .entry)) (now (randoms .entry))) z start (now (panel .entry)) (now (weights .entry)) ⌝ }
+        ⌜ now (weights .exit) ≡ drawWeightsBy KeyMethod.sequentialPoisson (frame (now (numbers .entry)) (now (turnovers .entry)) (now (randoms .entry))) z start (now (panel .entry)) (now (weights .entry)) ⌝ }
 {
     let answer = draw::draw_by(
         Method::SequentialPoisson,

@@ -3,7 +3,7 @@ use draw_key::Method;
 ghost use mathlib.Core.Path.{_≡_};
 ghost use Rattle.rules.specs.TakeAll.{frame};
 ghost use Rattle.rules.specs.Rotation.{born, rotationAnswerBy, rotationLeaversBy, rotationAnswer, rotationLeavers};
-ghost use Rattle.rules.specs.Draw.{Method};
+ghost use Rattle.rules.specs.Draw.{Method as KeyMethod};
 ghost use Rattle.rotation.specs.Answer.{answerFrom};
 ghost use Rattle.c_rotation.specs.Answer.{rotatedFrom};
 
@@ -17,7 +17,7 @@ pub struct Rotated {
 }
 
 // The answer as C has it.
-fn shown(answer: rotation::Answer) -> Rotated
+pub fn shown(answer: rotation::Answer) -> Rotated
     ensures { λ r. ⌜ r ≡ rotatedFrom (answerFrom answer) ⌝ }
 {
     match answer {
@@ -79,7 +79,7 @@ pub extern "C" fn vougecress_rotate_poisson(
     turnovers: &[u64],
     randoms: &[u32],
     z: usize,
-    old: u32,
+    from: u32,
     panel: &[u32],
     fraction: u32,
     size: usize,
@@ -88,10 +88,10 @@ pub extern "C" fn vougecress_rotate_poisson(
     leavers: &mut [u32],
 ) -> Rotated
     ensures { λ r.
-        ⌜ r ≡ rotatedFrom (rotationAnswerBy Method.sequentialPoisson (frame (now (numbers .entry)) (now (turnovers .entry)) (now (randoms .entry))) z old (now (panel .entry))
+        ⌜ r ≡ rotatedFrom (rotationAnswerBy KeyMethod.sequentialPoisson (frame (now (numbers .entry)) (now (turnovers .entry)) (now (randoms .entry))) z from (now (panel .entry))
         fraction (born size rest (now (births .entry))) (now (leavers .entry))) ⌝ }
     ensures { λ _.
-        ⌜ now (leavers .exit) ≡ rotationLeaversBy Method.sequentialPoisson (frame (now (numbers .entry)) (now (turnovers .entry)) (now (randoms .entry))) z old (now (panel .entry))
+        ⌜ now (leavers .exit) ≡ rotationLeaversBy KeyMethod.sequentialPoisson (frame (now (numbers .entry)) (now (turnovers .entry)) (now (randoms .entry))) z from (now (panel .entry))
         fraction (born size rest (now (births .entry))) (now (leavers .entry)) ⌝ }
 {
     let answer = rotation::rotate_by(
@@ -100,7 +100,7 @@ pub extern "C" fn vougecress_rotate_poisson(
         turnovers,
         randoms,
         z,
-        old,
+        from,
         panel,
         fraction,
         size,

@@ -1,7 +1,7 @@
 // The take-all group as unit numbers, on a lent frame, lists and buffer.
 use c_group::Taken;
 ghost use mathlib.Core.Path.{_≡_};
-ghost use Rattle.rules.specs.Kept.{previous, takeAllUnitsAnswer, takeAllUnits};
+ghost use Rattle.rules.specs.Kept.{keeping, takeAllUnitsAnswer, takeAllUnits};
 ghost use Rattle.c_group.specs.Answer.{takenFrom};
 
 #[no_mangle]
@@ -15,10 +15,10 @@ pub extern "C" fn vougecress_take_all_units(
     units: &mut [u32],
 ) -> Taken
     ensures { λ r.
-        ⌜ r ≡ takenFrom (takeAllUnitsAnswer (now (numbers .entry)) (now (turnovers .entry)) z (previous threshold (now (first .entry)) (now (second .entry)))
+        ⌜ r ≡ takenFrom (takeAllUnitsAnswer (now (numbers .entry)) (now (turnovers .entry)) z (keeping threshold (now (first .entry)) (now (second .entry)))
         (now (units .entry))) ⌝ }
     ensures { λ _.
-        ⌜ now (units .exit) ≡ takeAllUnits (now (numbers .entry)) (now (turnovers .entry)) z (previous threshold (now (first .entry)) (now (second .entry)))
+        ⌜ now (units .exit) ≡ takeAllUnits (now (numbers .entry)) (now (turnovers .entry)) z (keeping threshold (now (first .entry)) (now (second .entry)))
         (now (units .entry)) ⌝ }
 {
     let answer = group_units::take_all_units(

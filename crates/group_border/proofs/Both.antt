@@ -11,7 +11,7 @@ use Rattle.rules.specs.Tests.{_or_, _and_}
 use Rattle.rules.specs.Lists.{elem, anyOf}
 use Rattle.rules.specs.Selection.{count, rank}
 use Rattle.rules.specs.TakeAll.{Group, larger}
-use Rattle.rules.specs.Kept.{Previous, previous, inPrevious, nearBorder, candidate}
+use Rattle.rules.specs.Kept.{Keeping, keeping, inPrevious, nearBorder, candidate}
 use Rattle.rules.proofs.Tests.{and-off, and-second, or-none}
 use Rattle.selection.specs.Ranked.{Ranked}
 use Rattle.selection.proofs.Sums.{sum-same}
@@ -20,7 +20,7 @@ use Rattle.order.proofs.Ranks.{elem-count}
 use Rattle.group_border.specs.Border.{Gathered, Candidates}
 
 -- with no lists nobody is a candidate
-pub gathered-none : (ns ts : List ℕ) (threshold : ℕ) (g : Group) → Gathered ns ts (previous threshold [] []) g []
+pub gathered-none : (ns ts : List ℕ) (threshold : ℕ) (g : Group) → Gathered ns ts (keeping threshold [] []) g []
 unfolding candidate inPrevious elem anyOf _or_
 gathered-none ns ts threshold g = record {
   low = record { at = λ k l. absurd (not-suc-le-zero l) };
@@ -29,13 +29,13 @@ gathered-none ns ts threshold g = record {
 }
 
 -- one list, whichever of the two it is
-pub gathered-turned : (ns ts list : List ℕ) (threshold : ℕ) (g : Group) (units : List ℕ) → Gathered ns ts (previous threshold [] list) g units → Gathered ns ts (previous threshold list []) g units
+pub gathered-turned : (ns ts list : List ℕ) (threshold : ℕ) (g : Group) (units : List ℕ) → Gathered ns ts (keeping threshold [] list) g units → Gathered ns ts (keeping threshold list []) g units
 gathered-turned ns ts list threshold g units w = record { low = w .low; distinct = w .distinct; all = λ i l. w .all i l ∙ turned i }
   where
-    turned : (i : ℕ) → candidate ns ts (previous threshold [] list) g i ≡ candidate ns ts (previous threshold list []) g i
+    turned : (i : ℕ) → candidate ns ts (keeping threshold [] list) g i ≡ candidate ns ts (keeping threshold list []) g i
     turned i = unfold candidate inPrevious nearBorder elem anyOf _or_ in rw (or-none (anyOf (eqb (getD ns i 0)) list) false refl)
 
-module _ (ns ts : List ℕ) (p : Previous) (g : Group) (units new rest : List ℕ) (w : Gathered ns ts p g units) (o : InOrder ts units new) where
+module _ (ns ts : List ℕ) (p : Keeping) (g : Group) (units new rest : List ℕ) (w : Gathered ns ts p g units) (o : InOrder ts units new) where
   rank-same : (i : ℕ) → rank (λ j. elem j units) (larger ts) (length ts) i ≡ rank (candidate ns ts p g) (larger ts) (length ts) i
   unfolding rank count
   rank-same i = sum-same _ _ (λ j. 1) (length ts) (λ j l. ap (λ (b : Bool). b and larger ts j i) (w .all j l))

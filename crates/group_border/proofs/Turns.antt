@@ -14,7 +14,7 @@ use Rattle.rules.specs.Limits.{thresholdScale}
 use Rattle.rules.specs.Tests.{_or_, _and_}
 use Rattle.rules.specs.Lists.{rising, elem}
 use Rattle.rules.specs.TakeAll.{turnover, Group}
-use Rattle.rules.specs.Kept.{Previous, previous, inPrevious, nearBorder, candidate}
+use Rattle.rules.specs.Kept.{Keeping, keeping, inPrevious, nearBorder, candidate}
 use Rattle.rules.proofs.Tests.{and-on, and-off, and-second, or-on, or-off, or-second, or-none, by-test, by-order, not-both, cannot-hold}
 use Rattle.rules.proofs.Lists.{rising-below, elem-place, elem-nowhere, elem-last}
 use Rattle.frame_find.specs.Found.{Found}
@@ -32,7 +32,7 @@ one-place l up j k lj lk e =
     (λ a. by-order k j (λ b. absurd (omega (arith, rising-below l up k j b lj))) (λ b. omega arith))
 
 module _ (ns ts marks skip list units : List ℕ) (threshold n rest j : ℕ) (numbered : Numbered ns ts) (up : rising list ≡ true) (l : j < length list)
-    (at : Gathered ns ts (previous threshold skip (take j list)) (rulesGroup marks n rest) units) where
+    (at : Gathered ns ts (keeping threshold skip (take j list)) (rulesGroup marks n rest) units) where
   abbrev x : ℕ
   x = getD list j 0
 
@@ -40,10 +40,10 @@ module _ (ns ts marks skip list units : List ℕ) (threshold n rest j : ℕ) (nu
   g = rulesGroup marks n rest
 
   abbrev before : ℕ → Bool
-  before = candidate ns ts (previous threshold skip (take j list)) g
+  before = candidate ns ts (keeping threshold skip (take j list)) g
 
   abbrev after : ℕ → Bool
-  after = candidate ns ts (previous threshold skip (take (j + 1) list)) g
+  after = candidate ns ts (keeping threshold skip (take (j + 1) list)) g
 
   -- one number more
   elem-more : (y : ℕ) → elem y (take (j + 1) list) ≡ (elem y (take j list) or eqb y x)
@@ -61,7 +61,7 @@ module _ (ns ts marks skip list units : List ℕ) (threshold n rest j : ℕ) (nu
       omega (arith, e, getD-take j list k 0 (omega arith), rising-below list up k j (omega arith) l))
 
   -- a unit that is not eligible is no candidate
-  out : (p : Previous) → p .threshold ≡ threshold → (k : ℕ) → k < length ts → eligible ts marks threshold n rest k ≡ false → candidate ns ts p g k ≡ false
+  out : (p : Keeping) → p .threshold ≡ threshold → (k : ℕ) → k < length ts → eligible ts marks threshold n rest k ≡ false → candidate ns ts p g k ≡ false
   unfolding eligible candidate nearBorder
   out p same k lk e =
       by-test (marked marks k)
@@ -80,7 +80,7 @@ module _ (ns ts marks skip list units : List ℕ) (threshold n rest j : ℕ) (nu
         one-place ns (numbered .rises) k i (omega (arith, numbered .same)) (omega (arith, numbered .same)) (e ∙ sym (f .here (omega (arith, numbered .same))))
 
     -- it is not eligible, or there is none
-    pub turn-out : eligible ts marks threshold n rest i ≡ false → Gathered ns ts (previous threshold skip (take (j + 1) list)) g units
+    pub turn-out : eligible ts marks threshold n rest i ≡ false → Gathered ns ts (keeping threshold skip (take (j + 1) list)) g units
     turn-out e = record {
       low = at .low;
       distinct = at .distinct;
@@ -91,7 +91,7 @@ module _ (ns ts marks skip list units : List ℕ) (threshold n rest j : ℕ) (nu
           by-order i (length ts)
           (λ h.
           let no : eligible ts marks threshold n rest k ≡ false = ap (eligible ts marks threshold n rest) (there h k lk here) ∙ e in
-          out (previous threshold skip (take j list)) refl k lk no ∙ sym (out (previous threshold skip (take (j + 1) list)) refl k lk no))
+          out (keeping threshold skip (take j list)) refl k lk no ∙ sym (out (keeping threshold skip (take (j + 1) list)) refl k lk no))
           (λ h. absurd (not-there h k lk here)))
           (λ q. others-same k (eqb-false (getD ns k 0) x q));
     }
@@ -103,7 +103,7 @@ module _ (ns ts marks skip list units : List ℕ) (threshold n rest j : ℕ) (nu
         let in-skip : elem (getD ns k 0) skip ≡ true = ap (λ (y : ℕ). elem y skip) e ∙ s in
         rw (or-on (elem (getD ns k 0) skip) (elem (getD ns k 0) (take j list)) in-skip, or-on (elem (getD ns k 0) skip) (elem (getD ns k 0) (take (j + 1) list)) in-skip)
 
-    pub turn-skip : elem x skip ≡ true → Gathered ns ts (previous threshold skip (take (j + 1) list)) g units
+    pub turn-skip : elem x skip ≡ true → Gathered ns ts (keeping threshold skip (take (j + 1) list)) g units
     turn-skip s = record {
       low = at .low;
       distinct = at .distinct;
@@ -135,7 +135,7 @@ module _ (ns ts marks skip list units : List ℕ) (threshold n rest j : ℕ) (nu
       not-held k h same =
           not-both (elem i units) (ap (λ (u : ℕ). elem u units) (sym same) ∙ elem-place units k h) (at .all i fits ∙ was-not)
 
-      pub turn-more : Gathered ns ts (previous threshold skip (take (j + 1) list)) g (units ++ (i ∷ []))
+      pub turn-more : Gathered ns ts (keeping threshold skip (take (j + 1) list)) g (units ++ (i ∷ []))
       turn-more = record {
         low = record { at = each-append (λ u. u < length ts) units (i ∷ []) (at .low .at) (each-one (λ u. u < length ts) i fits) };
         distinct = distinct-last units i not-held (at .distinct);

@@ -10,7 +10,7 @@ use Rattle.rules.specs.Tests.{_and_}
 use Rattle.rules.specs.Lists.{rising, elem}
 use Rattle.rules.specs.Selection.{count}
 use Rattle.rules.specs.TakeAll.{turnover, larger, Group as RulesGroup}
-use Rattle.rules.specs.Kept.{Previous, candidate}
+use Rattle.rules.specs.Kept.{Keeping, candidate}
 use Rattle.selection.specs.Ranked.{Ranked}
 use Rattle.order.specs.InOrder.{Below, Distinct}
 use Rattle.group.specs.Group.{marked}
@@ -39,13 +39,13 @@ eligible ts marks threshold n rest i =
     ltb i (length ts) and not (marked marks i) and leb (threshold * rest) (thresholdScale * (n * turnover ts i))
 
 -- a list of units: each candidate once, and nobody else
-pub record Gathered (ns ts : List ℕ) (p : Previous) (g : RulesGroup) (units : List ℕ) : Type 0 where
+pub record Gathered (ns ts : List ℕ) (p : Keeping) (g : RulesGroup) (units : List ℕ) : Type 0 where
   pub low : Below units (length ts)
   pub distinct : Distinct units
   pub all : (i : ℕ) → i < length ts → elem i units ≡ candidate ns ts p g i
 
 -- the first n places of a list hold the candidates, the largest first, equal turnovers by lower number
-pub record Candidates (ns ts : List ℕ) (p : Previous) (g : RulesGroup) (units : List ℕ) (n : ℕ) : Type 0 where
+pub record Candidates (ns ts : List ℕ) (p : Keeping) (g : RulesGroup) (units : List ℕ) (n : ℕ) : Type 0 where
   pub within : n ≤ length units
   pub many : n ≡ count (candidate ns ts p g) (length ts)
   pub ranked : Ranked (candidate ns ts p g) (larger ts) (length ts) units n

@@ -9,7 +9,7 @@ ghost use lib.Dec.{leb};
 ghost use lib.ListN.{length, take};
 ghost use Rattle.rules.specs.Limits.{mostTurnover, mostPanel, thresholdScale};
 ghost use Rattle.rules.specs.Lists.{rising};
-ghost use Rattle.rules.specs.Kept.{previous};
+ghost use Rattle.rules.specs.Kept.{keeping};
 ghost use Rattle.group.specs.Group.{rulesGroup};
 ghost use Rattle.group_border.specs.Border.{Bordered, Listed, Numbered, eligible, Gathered, Candidates};
 
@@ -62,10 +62,10 @@ fn gather(
 ) -> usize
     requires { ⌜ Bordered (now turnovers) (now marks) threshold n rest × Numbered (now numbers) (now turnovers) ⌝ }
     requires { ⌜ (rising (now skip) ≡ true) × (rising (now list) ≡ true) × (count + length (now list) ≤ length (now places)) ⌝ }
-    requires { ⌜ Gathered (now numbers) (now turnovers) (previous threshold (now skip) []) (rulesGroup (now marks) n rest) (take count (now places)) ⌝ }
+    requires { ⌜ Gathered (now numbers) (now turnovers) (keeping threshold (now skip) []) (rulesGroup (now marks) n rest) (take count (now places)) ⌝ }
     ensures { λ r. ⌜ r ≤ count + length (now (list .entry)) ⌝ }
     ensures { λ r.
-        ⌜ Gathered (now (numbers .entry)) (now (turnovers .entry)) (previous threshold (now (skip .entry)) (now (list .entry)))
+        ⌜ Gathered (now (numbers .entry)) (now (turnovers .entry)) (keeping threshold (now (skip .entry)) (now (list .entry)))
         (rulesGroup (now (marks .entry)) n rest) (take r (now (places .exit))) ⌝ }
 {
     let mut many = count;
@@ -100,7 +100,7 @@ fn gather_both(
     requires { ⌜ Listed (now first) × Listed (now second) × (mostPanel + mostPanel ≤ length (now places)) ⌝ }
     ensures { λ r. ⌜ r ≤ mostPanel + mostPanel ⌝ }
     ensures { λ r.
-        ⌜ Gathered (now (numbers .entry)) (now (turnovers .entry)) (previous threshold (now (first .entry)) (now (second .entry)))
+        ⌜ Gathered (now (numbers .entry)) (now (turnovers .entry)) (keeping threshold (now (first .entry)) (now (second .entry)))
         (rulesGroup (now (marks .entry)) n rest) (take r (now (places .exit))) ⌝ }
 {
     let few = gather(
@@ -144,7 +144,7 @@ pub fn candidates(
     requires { ⌜ Bordered (now turnovers) (now marks) threshold n rest × Numbered (now numbers) (now turnovers) ⌝ }
     requires { ⌜ Listed (now first) × Listed (now second) × (mostPanel + mostPanel ≤ length (now places)) ⌝ }
     ensures { λ r.
-        ⌜ Candidates (now (numbers .entry)) (now (turnovers .entry)) (previous threshold (now (first .entry)) (now (second .entry)))
+        ⌜ Candidates (now (numbers .entry)) (now (turnovers .entry)) (keeping threshold (now (first .entry)) (now (second .entry)))
         (rulesGroup (now (marks .entry)) n rest) (now (places .exit)) r ⌝ }
 {
     let many = gather_both(

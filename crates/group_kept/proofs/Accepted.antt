@@ -6,7 +6,7 @@ use Prim.Native.Nat.{ℕ}
 use lib.ListN.{length}
 use borrow.Author.Tests.{ltb-false, not-false}
 use Rattle.rules.specs.Lists.{rising}
-use Rattle.rules.specs.Kept.{Previous, badList, badPrevious, previousRefusal}
+use Rattle.rules.specs.Kept.{Keeping, badList, badKeeping, keepingRefusal}
 use Rattle.rules.proofs.Tests.{or-false}
 use Rattle.rules.proofs.Refusals.{refuse-none}
 use Rattle.frame.proofs.Accepted.{Units}
@@ -19,8 +19,8 @@ unfolding badList
 listed list e = let b = or-false _ _ e in record { rises = not-false _ (b .1); few = ltb-false _ _ (b .0) }
 
 pub enlargeable :
-    {ns ts : List ℕ} {z : ℕ} {p : Previous} → Units ts z → length ns ≡ length ts → rising ns ≡ true → previousRefusal p ≡ 0 → Enlargeable ns ts z p
-unfolding previousRefusal badPrevious
+    {ns ts : List ℕ} {z : ℕ} {p : Keeping} → Units ts z → length ns ≡ length ts → rising ns ≡ true → keepingRefusal p ≡ 0 → Enlargeable ns ts z p
+unfolding keepingRefusal badKeeping
 enlargeable {ns} {ts} {z} {p} u same rises e =
     let b = or-false _ _ (refuse-none _ 29 e) in
     let c = or-false _ _ (b .0) in

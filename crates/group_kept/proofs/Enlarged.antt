@@ -14,7 +14,7 @@ use Rattle.rules.specs.Tests.{_or_, _and_}
 use Rattle.rules.specs.Lists.{sum, elem, anyOf}
 use Rattle.rules.specs.Selection.{sumOf, count, rank, firsts, leastFrom, every}
 use Rattle.rules.specs.TakeAll.{Group, turnover, larger, restWithout, takeAllSize, restTurnover, takeAllGroup}
-use Rattle.rules.specs.Kept.{Previous, previous, inPrevious, nearBorder, candidate, kept, forced, largestAmong, restAmong, reachesAmong, fitsAmong, sizeAmong, restFoundAmong, groupAmong, further, enlarge, enlargedGroup}
+use Rattle.rules.specs.Kept.{Keeping, keeping, inPrevious, nearBorder, candidate, kept, forced, largestAmong, restAmong, reachesAmong, fitsAmong, sizeAmong, restFoundAmong, groupAmong, further, enlarge, enlargedGroup}
 use Rattle.rules.proofs.Tests.{and-left, and-on, and-off, and-second, or-none, or-false, by-test, by-order}
 use Rattle.selection.proofs.Sums.{sum-le, sum-same, sum-none, sum-list}
 use Rattle.selection.proofs.Orders.{Order, firsts-zero, order-among}
@@ -102,7 +102,7 @@ firsts-most among before n o k =
     (λ l. omega (arith, count-firsts o k l))
 
 -- The group without a further search: base and kept units, n less their count, X less their turnovers; 0 where all places are kept.
-unfoldable pub keptGroup : List ℕ → List ℕ → Previous → Group → Group
+unfoldable pub keptGroup : List ℕ → List ℕ → Keeping → Group → Group
 keptGroup ns ts p g =
     let k = count (kept ns ts p g) (length ts) in
     record {
@@ -112,13 +112,13 @@ keptGroup ns ts p g =
     }
 
 -- a kept unit stands outside the group
-pub kept-outside : (ns ts : List ℕ) (p : Previous) (g : Group) (i : ℕ) → kept ns ts p g i ≡ true → g .takesAll i ≡ false
+pub kept-outside : (ns ts : List ℕ) (p : Keeping) (g : Group) (i : ℕ) → kept ns ts p g i ≡ true → g .takesAll i ≡ false
 unfolding kept firsts candidate
 kept-outside ns ts p g i h =
     let c : candidate ns ts p g i ≡ true = and-left (candidate ns ts p g i) (ltb (rank (candidate ns ts p g) (larger ts) (length ts) i) (g .sampleSize)) h in
     not-true (g .takesAll i) (and-left (not (g .takesAll i)) (inPrevious ns p i) (and-left (not (g .takesAll i) and inPrevious ns p i) (nearBorder ts p g i) c))
 
-module _ (ns ts : List ℕ) (p : Previous) (z : ℕ) (g : Group) (w : Reckoned ts z g) where
+module _ (ns ts : List ℕ) (p : Keeping) (z : ℕ) (g : Group) (w : Reckoned ts z g) where
   abbrev pub keptTurnover : ℕ
   keptTurnover = sumOf (kept ns ts p g) (turnover ts) (length ts)
 
@@ -189,8 +189,8 @@ module _ (ns ts : List ℕ) (p : Previous) (z : ℕ) (g : Group) (w : Reckoned t
   })
 
 -- ---- WITH NO LISTS THE ENLARGED GROUP IS THE BASE GROUP
-abbrev pub noLists : ℕ → Previous
-noLists threshold = previous threshold [] []
+abbrev pub noLists : ℕ → Keeping
+noLists threshold = keeping threshold [] []
 
 none-kept : (ns ts : List ℕ) (threshold : ℕ) (g : Group) (i : ℕ) → kept ns ts (noLists threshold) g i ≡ false
 unfolding kept firsts candidate inPrevious elem anyOf _or_
@@ -214,11 +214,11 @@ enlarge-base ns ts threshold z g w =
 
 -- ---- of a frame that refusal 5 leaves
 module _ (ns ts : List ℕ) (z : ℕ) (within : z ≤ length ts) where
-  pub enlarged-is : (p : Previous) → enlargedGroup ns ts z p ≡ keptGroup ns ts p (takeAllGroup ts z)
+  pub enlarged-is : (p : Keeping) → enlargedGroup ns ts z p ≡ keptGroup ns ts p (takeAllGroup ts z)
   unfolding enlargedGroup
   enlarged-is p = enlarge-is ns ts p z (takeAllGroup ts z) (base-reckoned ts z within)
 
-  pub enlarged-sound : (p : Previous) → Sound ts z (enlargedGroup ns ts z p)
+  pub enlarged-sound : (p : Keeping) → Sound ts z (enlargedGroup ns ts z p)
   unfolding enlargedGroup
   enlarged-sound p = reckoned-sound (enlarge-reckoned ns ts p z (takeAllGroup ts z) (base-reckoned ts z within))
 

@@ -13,7 +13,7 @@ use Rattle.rules.specs.Tests.{_or_, _and_}
 use Rattle.rules.specs.Lists.{sum}
 use Rattle.rules.specs.Selection.{sumOf, count, rank, firsts}
 use Rattle.rules.specs.TakeAll.{turnover, larger, takeAllSize, takeAllGroup, Group as RulesGroup}
-use Rattle.rules.specs.Kept.{Previous, inPrevious, nearBorder, candidate, kept, forced, enlargedGroup}
+use Rattle.rules.specs.Kept.{Keeping, inPrevious, nearBorder, candidate, kept, forced, enlargedGroup}
 use Rattle.rules.proofs.Tests.{and-left, and-on, or-on, or-off, by-test, by-order}
 use Rattle.selection.specs.Ranked.{Ranked}
 use Rattle.selection.specs.Marked.{Marked}
@@ -79,7 +79,7 @@ firsts-min among before n o k i l =
     (λ h. le-ltb _ _ h ∙ sym (le-ltb (rank among before n i) (min k (count among n)) (omega arith)))))
     (λ a. rw a)
 
-module _ (ns ts : List ℕ) (z : ℕ) (p : Previous) (marks : List ℕ) (g : Group) (within : z ≤ length ts) (is : IsGroup ts z marks g) where
+module _ (ns ts : List ℕ) (z : ℕ) (p : Keeping) (marks : List ℕ) (g : Group) (within : z ≤ length ts) (is : IsGroup ts z marks g) where
   abbrev base : RulesGroup
   base = takeAllGroup ts z
 

@@ -5,7 +5,7 @@ use group_border::TWO_LISTS;
 ghost use mathlib.Core.Path.{_≡_};
 ghost use Prim.Native.Nat.{_-_, _≤_, min};
 ghost use lib.ListN.{length};
-ghost use Rattle.rules.specs.Kept.{previous};
+ghost use Rattle.rules.specs.Kept.{keeping};
 ghost use Rattle.group_kept.specs.Kept.{Enlargeable, IsEnlarged, turnoverOf, Outside};
 
 // "At most n are kept"
@@ -43,9 +43,9 @@ pub fn find_enlarged(
     second: &[u32],
     marks: &mut [u8],
 ) -> Group
-    requires { ⌜ Enlargeable (now numbers) (now turnovers) z (previous threshold (now first) (now second)) × (length (now turnovers) ≤ length (now marks)) ⌝ }
+    requires { ⌜ Enlargeable (now numbers) (now turnovers) z (keeping threshold (now first) (now second)) × (length (now turnovers) ≤ length (now marks)) ⌝ }
     ensures { λ g.
-        ⌜ IsEnlarged (now (numbers .entry)) (now (turnovers .entry)) z (previous threshold (now (first .entry)) (now (second .entry))) (now (marks .exit)) g ⌝ }
+        ⌜ IsEnlarged (now (numbers .entry)) (now (turnovers .entry)) z (keeping threshold (now (first .entry)) (now (second .entry))) (now (marks .exit)) g ⌝ }
 {
     let g = group::find_group(turnovers, z, marks);
     let mut places = [0usize; TWO_LISTS];

@@ -5,7 +5,7 @@ use mathlib.Core.List.{List}
 use Prim.Native.Nat.{ℕ, _≤_}
 use lib.ListN.{length}
 use borrow.Author.Tests.{ltb-false, eqb-true, not-false}
-use Rattle.rules.specs.Kept.{Previous, takeAllUnitsRefusal, previousRefusal}
+use Rattle.rules.specs.Kept.{Keeping, takeAllUnitsRefusal, keepingRefusal}
 use Rattle.rules.proofs.Tests.{or-false}
 use Rattle.rules.proofs.Refusals.{refuse-none, then-none}
 use Rattle.frame.proofs.Accepted.{Units, units}
@@ -13,13 +13,13 @@ use Rattle.group.proofs.Accepted.{sized}
 use Rattle.group_kept.specs.Kept.{Enlargeable}
 use Rattle.group_kept.proofs.Accepted.{enlargeable}
 
-pub record Accepted (ns ts : List ℕ) (z : ℕ) (p : Previous) (buffer : List ℕ) : Type 0 where
+pub record Accepted (ns ts : List ℕ) (z : ℕ) (p : Keeping) (buffer : List ℕ) : Type 0 where
   pub same : length ns ≡ length ts
   pub units : Units ts z
   pub room : z ≤ length buffer
   pub ready : Enlargeable ns ts z p
 
-pub accepted : (ns ts : List ℕ) (z : ℕ) (p : Previous) (buffer : List ℕ) → takeAllUnitsRefusal ns ts z p buffer ≡ 0 → Accepted ns ts z p buffer
+pub accepted : (ns ts : List ℕ) (z : ℕ) (p : Keeping) (buffer : List ℕ) → takeAllUnitsRefusal ns ts z p buffer ≡ 0 → Accepted ns ts z p buffer
 unfolding takeAllUnitsRefusal
 accepted ns ts z p buffer e =
     let n1 = then-none _ _ e in

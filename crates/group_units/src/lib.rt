@@ -9,7 +9,7 @@ ghost use Prim.Native.Nat.{_≤_};
 ghost use lib.ListN.{length, getD};
 ghost use Rattle.rules.specs.Refusals.{written};
 ghost use Rattle.rules.specs.Selection.{count, listed};
-ghost use Rattle.rules.specs.Kept.{previous, takeAllUnitsRefusal, takeAllUnitsAnswer, takeAllUnits};
+ghost use Rattle.rules.specs.Kept.{keeping, takeAllUnitsRefusal, takeAllUnitsAnswer, takeAllUnits};
 ghost use Rattle.refusals.specs.Number.{verdictOf};
 ghost use Rattle.group.specs.Group.{marked};
 ghost use Rattle.group_entry.specs.Answer.{answerFrom};
@@ -25,7 +25,7 @@ fn judge(
     units: &[u32],
 ) -> Verdict
     ensures { λ r.
-        ⌜ verdictOf r ≡ takeAllUnitsRefusal (now (numbers .entry)) (now (turnovers .entry)) z (previous threshold (now (first .entry)) (now (second .entry)))
+        ⌜ verdictOf r ≡ takeAllUnitsRefusal (now (numbers .entry)) (now (turnovers .entry)) z (keeping threshold (now (first .entry)) (now (second .entry)))
         (now (units .entry)) ⌝ }
 {
     if numbers.len() != turnovers.len() {
@@ -46,7 +46,7 @@ fn judge(
     if units.len() < z {
         return Verdict::Refused(Refusal::ResultBuffer);
     }
-    if group_previous::bad_previous(threshold, first, second) {
+    if group_keeping::bad_keeping(threshold, first, second) {
         return Verdict::Refused(Refusal::PreviousLists);
     }
     Verdict::Accepted
@@ -80,10 +80,10 @@ pub fn take_all_units(
     units: &mut [u32],
 ) -> Answer
     ensures { λ r.
-        ⌜ answerFrom r ≡ takeAllUnitsAnswer (now (numbers .entry)) (now (turnovers .entry)) z (previous threshold (now (first .entry)) (now (second .entry)))
+        ⌜ answerFrom r ≡ takeAllUnitsAnswer (now (numbers .entry)) (now (turnovers .entry)) z (keeping threshold (now (first .entry)) (now (second .entry)))
         (now (units .entry)) ⌝ }
     ensures { λ _.
-        ⌜ now (units .exit) ≡ takeAllUnits (now (numbers .entry)) (now (turnovers .entry)) z (previous threshold (now (first .entry)) (now (second .entry)))
+        ⌜ now (units .exit) ≡ takeAllUnits (now (numbers .entry)) (now (turnovers .entry)) z (keeping threshold (now (first .entry)) (now (second .entry)))
         (now (units .entry)) ⌝ }
 {
     let verdict = judge(numbers, turnovers, z, threshold, first, second, units);

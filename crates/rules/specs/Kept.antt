@@ -12,33 +12,33 @@ use Rattle.rules.specs.Selection.{sumOf, count, firsts, listed, leastFro
 use Rattle.rules.specs.TakeAll.{Group, Taken, turnover, larger, takeAllGroup, badTurnovers, badSize, badCount}
 
 -- "a threshold γ in thousandths … and the take-all lists of zero, one or two previous draws": an empty list is no list
-pub record Previous : Type 0 where
+pub record Keeping : Type 0 where
   pub threshold : ℕ
   pub first : List ℕ
   pub second : List ℕ
 
-abbrev pub previous : ℕ → List ℕ → List ℕ → Previous
-previous threshold first second = record { threshold = threshold; first = first; second = second }
+abbrev pub keeping : ℕ → List ℕ → List ℕ → Keeping
+keeping threshold first second = record { threshold = threshold; first = first; second = second }
 
 -- ---- who is kept. g is the group of the base search, so that n and X are the base search's for every unit.
 -- "stands in one of those lists"
-unfoldable pub inPrevious : List ℕ → Previous → ℕ → Bool
+unfoldable pub inPrevious : List ℕ → Keeping → ℕ → Bool
 inPrevious ns p i = elem (getD ns i 0) (p .first) or elem (getD ns i 0) (p .second)
 
 -- "1,000 × n × turnover ≥ γ × X"
-unfoldable pub nearBorder : List ℕ → Previous → Group → ℕ → Bool
+unfoldable pub nearBorder : List ℕ → Keeping → Group → ℕ → Bool
 nearBorder ts p g i = leb (p .threshold * g .rest) (thresholdScale * (g .sampleSize * turnover ts i))
 
 -- "a sampled-stratum unit that stands in one of those lists, and for which 1,000 × n × turnover ≥ γ × X"
-unfoldable pub candidate : List ℕ → List ℕ → Previous → Group → ℕ → Bool
+unfoldable pub candidate : List ℕ → List ℕ → Keeping → Group → ℕ → Bool
 candidate ns ts p g i = not (g .takesAll i) and inPrevious ns p i and nearBorder ts p g i
 
 -- "is kept. At most n are kept, the largest first, equal turnovers by lower number."
-unfoldable pub kept : List ℕ → List ℕ → Previous → Group → ℕ → Bool
+unfoldable pub kept : List ℕ → List ℕ → Keeping → Group → ℕ → Bool
 kept ns ts p g i = firsts (candidate ns ts p g) (larger ts) (length ts) (g .sampleSize) i
 
 -- "With these forced"
-unfoldable pub forced : List ℕ → List ℕ → Previous → Group → ℕ → Bool
+unfoldable pub forced : List ℕ → List ℕ → Keeping → Group → ℕ → Bool
 forced ns ts p g i = g .takesAll i or kept ns ts p g i
 
 -- ---- "the search goes on over the remaining units and places for the smallest further count, by the same inequality and the same cut-off": the search
@@ -73,46 +73,46 @@ groupAmong among ts places =
     record { takesAll = largestAmong among ts q; sampleSize = places - q; rest = restFoundAmong among ts places }
 
 -- ---- the enlarged group
-unfoldable pub further : List ℕ → List ℕ → Previous → Group → Group
+unfoldable pub further : List ℕ → List ℕ → Keeping → Group → Group
 further ns ts p g = groupAmong (λ i. not (forced ns ts p g i)) ts (g .sampleSize - count (kept ns ts p g) (length ts))
 
-unfoldable pub enlarge : List ℕ → List ℕ → Previous → Group → Group
+unfoldable pub enlarge : List ℕ → List ℕ → Keeping → Group → Group
 enlarge ns ts p g =
     let more = further ns ts p g in
     record { takesAll = λ i. forced ns ts p g i or more .takesAll i; sampleSize = more .sampleSize; rest = more .rest }
 
 -- "After the base search"
-unfoldable pub enlargedGroup : List ℕ → List ℕ → ℕ → Previous → Group
+unfoldable pub enlargedGroup : List ℕ → List ℕ → ℕ → Keeping → Group
 enlargedGroup ns ts z p = enlarge ns ts p (takeAllGroup ts z)
 
 -- ---- refusal 30: "when γ is 0 or over 1,000, or a previous list is over 100 or not rising"
 unfoldable pub badList : List ℕ → Bool
 badList list = ltb mostPanel (length list) or not (rising list)
 
-unfoldable pub badPrevious : Previous → Bool
-badPrevious p = eqb (p .threshold) 0 or ltb thresholdScale (p .threshold) or badList (p .first) or badList (p .second)
+unfoldable pub badKeeping : Keeping → Bool
+badKeeping p = eqb (p .threshold) 0 or ltb thresholdScale (p .threshold) or badList (p .first) or badList (p .second)
 
-unfoldable pub previousRefusal : Previous → ℕ
-previousRefusal p = refuse (badPrevious p) 30
+unfoldable pub keepingRefusal : Keeping → ℕ
+keepingRefusal p = refuse (badKeeping p) 30
 
 -- ---- The group as unit numbers, the list that a later draw takes (docs/DECISIONS.md, "The take-all list of a draw"): with no lists the base group, with
 -- lists the enlarged one. A group has at most z units, so 6 asks for z places, as of a draw.
-unfoldable pub takeAllUnitsRefusal : List ℕ → List ℕ → ℕ → Previous → List ℕ → ℕ
+unfoldable pub takeAllUnitsRefusal : List ℕ → List ℕ → ℕ → Keeping → List ℕ → ℕ
 takeAllUnitsRefusal ns ts z p buffer =
     refuse (not (eqb (length ns) (length ts)) or badCount ts) 1
     then refuse (not (rising ns)) 2
     then refuse (badTurnovers ts) 3
     then refuse (badSize ts z) 5
     then refuse (ltb (length buffer) z) 6
-    then previousRefusal p
+    then keepingRefusal p
 
 -- the count of its units, n and X
-unfoldable pub takeAllUnitsAnswer : List ℕ → List ℕ → ℕ → Previous → List ℕ → Judged Taken
+unfoldable pub takeAllUnitsAnswer : List ℕ → List ℕ → ℕ → Keeping → List ℕ → Judged Taken
 takeAllUnitsAnswer ns ts z p buffer =
     let g = enlargedGroup ns ts z p in
     judged (takeAllUnitsRefusal ns ts z p buffer) (record { size = count (g .takesAll) (length ts); sampleSize = g .sampleSize; rest = g .rest })
 
 -- their numbers, rising; places beyond them stay
-unfoldable pub takeAllUnits : List ℕ → List ℕ → ℕ → Previous → List ℕ → List ℕ
+unfoldable pub takeAllUnits : List ℕ → List ℕ → ℕ → Keeping → List ℕ → List ℕ
 takeAllUnits ns ts z p buffer =
     written (takeAllUnitsRefusal ns ts z p buffer) (listed (enlargedGroup ns ts z p .takesAll) (λ i. getD ns i 0) (length ts)) buffer

@@ -6,7 +6,7 @@ use native.Mathlib.Omega.{arith}
 use lib.ListN.{length, take, drop}
 use lib.Seq.{length-take-le}
 use borrow.Author.Needs.{needs}
-use Rattle.rules.specs.Kept.{previous}
+use Rattle.rules.specs.Kept.{keeping}
 use Rattle.group.specs.Group.{rulesGroup}
 use Rattle.group_border.specs.Border.{Candidates}
 use Rattle.group_border.proofs.Both.{in-order}
@@ -35,7 +35,7 @@ returns c =
     let o = c .before .before .before .order in
     let a = entry g .args in
     subst
-    (λ (k : ℕ). Candidates (a .numbers .now) (a .turnovers .now) (previous (a .threshold) (a .first .now) (a .second .now)) (rulesGroup (a .marks .now) (a .n) (a .rest))
+    (λ (k : ℕ). Candidates (a .numbers .now) (a .turnovers .now) (keeping (a .threshold) (a .first .now) (a .second .now)) (rulesGroup (a .marks .now) (a .n) (a .rest))
     (o .last .1 .0 ++ drop (g .gather-both .result) (g .gather-both .last .1 .1 .1 .1 .1 .1 .1 .1 .0)) k)
     (fits g)
     (in-order _ _ _ _ _ _ _ (g .gather-both .ensures .1) (o .ensures) (o .kept .1 .0))

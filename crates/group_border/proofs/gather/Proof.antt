@@ -11,7 +11,7 @@ use lib.Seq.{take-all, take-suc-set}
 use borrow.Author.Needs.{needs}
 use borrow.Author.Tests.{ltb-true}
 use Rattle.rules.specs.Lists.{rising, elem}
-use Rattle.rules.specs.Kept.{previous}
+use Rattle.rules.specs.Kept.{keeping}
 use Rattle.rules.proofs.Tests.{and-left, by-order}
 use Rattle.rules.proofs.Lists.{elem-place}
 use Rattle.frame_find.specs.Found.{Found}
@@ -26,13 +26,13 @@ record At (ns ts marks : List ℕ) (threshold n rest : ℕ) (skip list : List �
   within : j ≤ length list
   few : many ≤ count + j
   long : length places ≡ length before
-  held : Gathered ns ts (previous threshold skip (take j list)) (rulesGroup marks n rest) (take many places)
+  held : Gathered ns ts (keeping threshold skip (take j list)) (rulesGroup marks n rest) (take many places)
 
 -- a turn: number j of the list, and where it stands in the frame
 module _ (ns ts marks : List ℕ) (threshold n rest : ℕ) (skip list : List ℕ) (count : ℕ) (before places : List ℕ) (many j i : ℕ)
     (at : At ns ts marks threshold n rest skip list count before places many j) (numbered : Numbered ns ts) (up : rising list ≡ true) (l : j < length list)
     (f : Found ns (getD list j 0) i) where
-  passed : Gathered ns ts (previous threshold skip (take (j + 1) list)) (rulesGroup marks n rest) (take many places)
+  passed : Gathered ns ts (keeping threshold skip (take (j + 1) list)) (rulesGroup marks n rest) (take many places)
       → At ns ts marks threshold n rest skip list count before places many (j + 1)
   passed h = record { within = omega arith; few = omega (arith, at .few); long = at .long; held = h }
 

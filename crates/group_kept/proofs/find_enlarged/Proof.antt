@@ -6,7 +6,7 @@ use native.Mathlib.Omega.{arith}
 use lib.ListN.{length, take}
 use lib.Seq.{length-take-le}
 use borrow.Author.Needs.{needs}
-use Rattle.rules.specs.Kept.{Previous, previous}
+use Rattle.rules.specs.Kept.{Keeping, keeping}
 use Rattle.frame.proofs.Accepted.{place-within}
 use Rattle.selection.proofs.TakeAll.{size-le}
 use Rattle.group.specs.Group.{Sound}
@@ -35,8 +35,8 @@ module _ (c : tie.After-at-most) where
   abbrev entry : tie.Start
   entry = start found
 
-  abbrev parameters : Previous
-  parameters = previous (entry .args .threshold) (entry .args .first .now) (entry .args .second .now)
+  abbrev parameters : Keeping
+  parameters = keeping (entry .args .threshold) (entry .args .first .now) (entry .args .second .now)
 
   abbrev places : List ℕ
   places = c .before .before .candidates .last .1 .1 .1 .1 .1 .1 .1 .1 .0

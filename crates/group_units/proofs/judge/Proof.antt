@@ -9,27 +9,27 @@ use Rattle.rules.specs.Tests.{_or_}
 use Rattle.rules.specs.Refusals.{refuse, _then_}
 use Rattle.rules.specs.TakeAll.{badTurnovers, badSize}
 use Rattle.rules.specs.Lists.{rising}
-use Rattle.rules.specs.Kept.{previous, previousRefusal, takeAllUnitsRefusal}
+use Rattle.rules.specs.Kept.{keeping, keepingRefusal, takeAllUnitsRefusal}
 use Rattle.group_units.proofs.judge.Statement.{statement}
 use Rattle.group_units.proofs.judge.Tie as tie
 
 -- where 1 lets pass, the others decide
 past-lists : (c : tie.Else2) →
     let a = c .before .before .before .before .before .before .before .before .args in
-    takeAllUnitsRefusal (a .numbers .now) (a .turnovers .now) (a .z) (previous (a .threshold) (a .first .now) (a .second .now)) (a .units .now)
+    takeAllUnitsRefusal (a .numbers .now) (a .turnovers .now) (a .z) (keeping (a .threshold) (a .first .now) (a .second .now)) (a .units .now)
     ≡ (refuse (not (rising (a .numbers .now))) 2
     then refuse (badTurnovers (a .turnovers .now)) 3
     then refuse (badSize (a .turnovers .now) (a .z)) 5
     then refuse (ltb (length (a .units .now)) (a .z)) 6
-    then previousRefusal (previous (a .threshold) (a .first .now) (a .second .now)))
+    then keepingRefusal (keeping (a .threshold) (a .first .now) (a .second .now)))
 unfolding takeAllUnitsRefusal refuse _then_ _or_
 past-lists c = rw (eq-eqb _ _ (c .before .before .if1 .left), ← c .before .bad-count .ensures, c .if2 .left)
 
 -- where 1 to 5 let pass, 6 and 30 decide
 past-size : (c : tie.Else5) →
     let a = c .before .before .before .before .before .before .before .before .before .before .before .before .before .before .args in
-    takeAllUnitsRefusal (a .numbers .now) (a .turnovers .now) (a .z) (previous (a .threshold) (a .first .now) (a .second .now)) (a .units .now)
-    ≡ (refuse (ltb (length (a .units .now)) (a .z)) 6 then previousRefusal (previous (a .threshold) (a .first .now) (a .second .now)))
+    takeAllUnitsRefusal (a .numbers .now) (a .turnovers .now) (a .z) (keeping (a .threshold) (a .first .now) (a .second .now)) (a .units .now)
+    ≡ (refuse (ltb (length (a .units .now)) (a .z)) 6 then keepingRefusal (keeping (a .threshold) (a .first .now) (a .second .now)))
 unfolding refuse _then_
 past-size c =
     let s4 = c .before .before in
@@ -66,12 +66,12 @@ unfolding refuse _then_
 returns-6 c = rw (past-size (c .before), lt-ltb _ _ (c .if6 .taken))
 
 returns-7 : tie.Need-returns-7
-unfolding previousRefusal refuse _then_
-returns-7 c = rw (past-size (c .before .before .before), le-ltb _ _ (c .before .before .if6 .left), ← c .before .bad-previous .ensures, c .if7 .taken)
+unfolding keepingRefusal refuse _then_
+returns-7 c = rw (past-size (c .before .before .before), le-ltb _ _ (c .before .before .if6 .left), ← c .before .bad-keeping .ensures, c .if7 .taken)
 
 returns-8 : tie.Need-returns-8
-unfolding previousRefusal refuse _then_
-returns-8 c = rw (past-size (c .before .before .before), le-ltb _ _ (c .before .before .if6 .left), ← c .before .bad-previous .ensures, c .if7 .left)
+unfolding keepingRefusal refuse _then_
+returns-8 c = rw (past-size (c .before .before .before), le-ltb _ _ (c .before .before .if6 .left), ← c .before .bad-keeping .ensures, c .if7 .left)
 
 pub judge-spec : {M : Type 1} → statement M
 judge-spec =

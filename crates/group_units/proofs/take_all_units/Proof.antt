@@ -8,7 +8,7 @@ use borrow.Author.Needs.{needs}
 use Rattle.rules.specs.Limits.{mostFrame}
 use Rattle.rules.specs.Refusals.{written}
 use Rattle.rules.specs.Selection.{count, listed}
-use Rattle.rules.specs.Kept.{Previous, previous, enlargedGroup, takeAllUnitsRefusal, takeAllUnitsAnswer, takeAllUnits}
+use Rattle.rules.specs.Kept.{Keeping, keeping, enlargedGroup, takeAllUnitsRefusal, takeAllUnitsAnswer, takeAllUnits}
 use Rattle.refusals.specs.Number.{verdictOf}
 use Rattle.refusals.proofs.Numbers.{number-is-suc}
 use Rattle.selection.proofs.Sums.{sum-same}
@@ -22,7 +22,7 @@ use Rattle.group_units.proofs.take_all_units.Statement.{statement}
 use Rattle.group_units.proofs.take_all_units.Tie as tie
 
 -- the marks tell whom to write, and there is room for them
-module _ (ns ts : List ℕ) (z : ℕ) (p : Previous) (buffer marks : List ℕ) (g : Group) (ok : Accepted ns ts z p buffer) (is : IsEnlarged ns ts z p marks g) where
+module _ (ns ts : List ℕ) (z : ℕ) (p : Keeping) (buffer marks : List ℕ) (g : Group) (ok : Accepted ns ts z p buffer) (is : IsEnlarged ns ts z p marks g) where
   units-are : listed (marked marks) (λ i. getD ns i 0) (length ns) ≡ listed (enlargedGroup ns ts z p .takesAll) (λ i. getD ns i 0) (length ts)
   units-are =
       ap (listed (marked marks) (λ i. getD ns i 0)) (ok .same)
@@ -38,7 +38,7 @@ module _ (ns ts : List ℕ) (z : ℕ) (p : Previous) (buffer marks : List ℕ) (
 -- the verdict is the definition's
 none : (c : tie.After-enum-told) →
     let a = c .before .before .before .before .before .before .before .before .before .args in
-    takeAllUnitsRefusal (a .numbers .now) (a .turnovers .now) (a .z) (previous (a .threshold) (a .first .now) (a .second .now)) (a .units .now) ≡ 0
+    takeAllUnitsRefusal (a .numbers .now) (a .turnovers .now) (a .z) (keeping (a .threshold) (a .first .now) (a .second .now)) (a .units .now) ≡ 0
 none c = sym (c .before .before .judge .ensures) ∙ ap verdictOf (c .enum-told .given .1)
 
 find-enlarged-requires : tie.Need-find-enlarged-requires

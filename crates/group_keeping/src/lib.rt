@@ -2,7 +2,7 @@
 use limits::MOST_PANEL;
 use limits::THRESHOLD_SCALE;
 ghost use mathlib.Core.Path.{_≡_};
-ghost use Rattle.rules.specs.Kept.{previous, badList, badPrevious};
+ghost use Rattle.rules.specs.Kept.{keeping, badList, badKeeping};
 
 // "a previous list is over 100 or not rising"
 fn bad_list(list: &[u32]) -> bool
@@ -15,8 +15,8 @@ fn bad_list(list: &[u32]) -> bool
 }
 
 // 30: "γ is 0 or over 1,000, or a previous list is over 100 or not rising"
-pub fn bad_previous(threshold: u32, first: &[u32], second: &[u32]) -> bool
-    ensures { λ r. ⌜ r ≡ badPrevious (previous threshold (now (first .entry)) (now (second .entry))) ⌝ }
+pub fn bad_keeping(threshold: u32, first: &[u32], second: &[u32]) -> bool
+    ensures { λ r. ⌜ r ≡ badKeeping (keeping threshold (now (first .entry)) (now (second .entry))) ⌝ }
 {
     if threshold == 0 {
         return true;

@@ -3,8 +3,8 @@ use borrow.Author.Needs.{needs}
 use borrow.Author.Tests.{lt-ltb, le-ltb}
 use Rattle.rules.specs.Tests.{_or_}
 use Rattle.rules.specs.Kept.{badList}
-use Rattle.group_previous.proofs.bad_list.Statement.{statement}
-use Rattle.group_previous.proofs.bad_list.Tie as tie
+use Rattle.group_keeping.proofs.bad_list.Statement.{statement}
+use Rattle.group_keeping.proofs.bad_list.Tie as tie
 
 returns : tie.Need-returns
 unfolding badList _or_
