@@ -7,6 +7,7 @@
 #include <string>
 
 #include "baseline.hpp"
+#include "kept.hpp"
 #include "proved.hpp"
 
 namespace {
@@ -159,6 +160,7 @@ void measure() {
                 [&](const Engine& engine) { return engine.rotate_poisson(frame, z, 0, other_panel, fraction, {}); });
     }
     measure_births();
+    kept::measure(faults);
     measure_import();
 }
 

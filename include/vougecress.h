@@ -80,6 +80,7 @@ enum vougecress_refusal {
 #define VOUGECRESS_RANDOM_RANGE 1000000                      /* random numbers and starts are below this */
 #define VOUGECRESS_MOST_PANEL 100                            /* units of a panel, and of a record */
 #define VOUGECRESS_FRACTION_SCALE 1000                       /* the fraction of a rotation is in thousandths, 0 to this */
+#define VOUGECRESS_THRESHOLD_SCALE 1000                      /* the threshold of a draw with previous lists is in thousandths, 1 to this */
 #define VOUGECRESS_SHARE_SCALE 10000                         /* a whole share; shares are 0 to this */
 #define VOUGECRESS_RELATIVE_SCALE 100000                     /* a relative of no change */
 #define VOUGECRESS_LOWEST_RELATIVE 25000                     /* the range of a relative; 0 for an absent unit, and only for it */
@@ -300,6 +301,79 @@ struct vougecress_rotated vougecress_rotate_poisson(const uint32_t *numbers, siz
                                                     size_t previous_n, uint64_t previous_rest,
                                                     const uint32_t *births, size_t births_count,
                                                     uint32_t *leavers, size_t leavers_count);
+
+/* ---- Firms at the border (document 02, [9])
+ *
+ * A firm just under the take-all limit would leave the group and return year by year. `threshold` is 1 to 1,000 thousandths
+ * (the paper's is 800); `first` and `second` are the take-all lists of up to two previous draws, rising unit numbers, at
+ * most 100 each. An empty list is no list, and their order does not matter. After the base search with its n and X, a unit
+ * outside the group that stands in a list is kept where 1,000 x n x turnover is at least threshold x X: at most n, the
+ * largest first, equal turnovers by lower unit number. The enlarged group is take-all; its n is n less the kept units, its
+ * X less their turnovers. Where all n are kept n and X are 0, W is the turnover, and units may remain outside the group.
+ * With no lists each function answers as the one without `_kept`. Refusal 30: threshold 0 or over 1,000, also with no lists,
+ * or a list over 100 or not rising; it comes directly after 6.
+ */
+
+/*
+ * The take-all group as unit numbers, the list that a later draw takes: the base group with no lists, the enlarged one with
+ * lists. Writes them, rising, into the first q places of `units`, which must have z places; the others stay. The paper
+ * speaks of units whose inclusion probability was at least 1, which is the base group: hand that to later draws. Handed the
+ * enlarged one, a firm once kept stays as long as it reaches the threshold; handed the base group, for two draws at most.
+ * Refusals 1, 2, 3, 5, 6, 30.
+ */
+struct vougecress_taken vougecress_take_all_units(const uint32_t *numbers, size_t numbers_count,
+                                                  const uint64_t *turnovers, size_t turnovers_count,
+                                                  size_t z, uint32_t threshold,
+                                                  const uint32_t *first, size_t first_count,
+                                                  const uint32_t *second, size_t second_count,
+                                                  uint32_t *units, size_t units_count);
+
+/* vougecress_draw with a threshold and previous lists. Refusals 1 to 6, 30. */
+struct vougecress_drawn vougecress_draw_kept(const uint32_t *numbers, size_t numbers_count,
+                                             const uint64_t *turnovers, size_t turnovers_count,
+                                             const uint32_t *randoms, size_t randoms_count,
+                                             size_t z, uint32_t start, uint32_t threshold,
+                                             const uint32_t *first, size_t first_count,
+                                             const uint32_t *second, size_t second_count,
+                                             uint32_t *panel, size_t panel_count,
+                                             uint64_t *weights, size_t weights_count);
+
+/* The same by sequential Poisson keys. */
+struct vougecress_drawn vougecress_draw_poisson_kept(const uint32_t *numbers, size_t numbers_count,
+                                                     const uint64_t *turnovers, size_t turnovers_count,
+                                                     const uint32_t *randoms, size_t randoms_count,
+                                                     size_t z, uint32_t start, uint32_t threshold,
+                                                     const uint32_t *first, size_t first_count,
+                                                     const uint32_t *second, size_t second_count,
+                                                     uint32_t *panel, size_t panel_count,
+                                                     uint64_t *weights, size_t weights_count);
+
+/*
+ * vougecress_rotate with a threshold and previous lists: members and births are those outside the enlarged group, and where
+ * all places are kept every member leaves at step 0. Refusals 1 to 6, 30, 7, 25, 26, 8, in this order.
+ */
+struct vougecress_rotated vougecress_rotate_kept(const uint32_t *numbers, size_t numbers_count,
+                                                 const uint64_t *turnovers, size_t turnovers_count,
+                                                 const uint32_t *randoms, size_t randoms_count,
+                                                 size_t z, uint32_t old_start,
+                                                 const uint32_t *old_panel, size_t old_panel_count,
+                                                 uint32_t fraction, size_t previous_n, uint64_t previous_rest,
+                                                 const uint32_t *births, size_t births_count, uint32_t threshold,
+                                                 const uint32_t *first, size_t first_count,
+                                                 const uint32_t *second, size_t second_count,
+                                                 uint32_t *leavers, size_t leavers_count);
+
+/* The same by sequential Poisson keys. */
+struct vougecress_rotated vougecress_rotate_poisson_kept(const uint32_t *numbers, size_t numbers_count,
+                                                         const uint64_t *turnovers, size_t turnovers_count,
+                                                         const uint32_t *randoms, size_t randoms_count,
+                                                         size_t z, uint32_t old_start,
+                                                         const uint32_t *old_panel, size_t old_panel_count,
+                                                         uint32_t fraction, size_t previous_n, uint64_t previous_rest,
+                                                         const uint32_t *births, size_t births_count, uint32_t threshold,
+                                                         const uint32_t *first, size_t first_count,
+                                                         const uint32_t *second, size_t second_count,
+                                                         uint32_t *leavers, size_t leavers_count);
 
 /* ---- Total ("Total"): shares in millionths that add to 1,000,000, and an index a sector. Refusal 14. */
 struct vougecress_figure vougecress_total(const uint32_t *shares, size_t shares_count,

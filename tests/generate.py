@@ -17,6 +17,14 @@ from cases.frames import (
     rotate_cases,
     take_all_cases,
 )
+from cases.kept import (
+    kept_draw_cases,
+    kept_poisson_draw_cases,
+    kept_poisson_rotate_cases,
+    kept_rotate_cases,
+    large_kept_draw_cases,
+    take_all_units_cases,
+)
 from cases.loads import load_cases
 from cases.outsides import outside_cases, outside_chain_cases
 from cases.panels import panels_cases, renew_cases, renew_outside_cases
@@ -37,7 +45,12 @@ __all__ = [
     "chain_cases",
     "close_cases",
     "draw_cases",
+    "kept_draw_cases",
+    "kept_poisson_draw_cases",
+    "kept_poisson_rotate_cases",
+    "kept_rotate_cases",
     "large_draw_cases",
+    "large_kept_draw_cases",
     "load_cases",
     "many_draw_cases",
     "near_draw_cases",
@@ -58,6 +71,7 @@ __all__ = [
     "sheet_cases",
     "stream_cases",
     "take_all_cases",
+    "take_all_units_cases",
     "total_cases",
     "word_cases",
     "write_cases",

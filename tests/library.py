@@ -54,6 +54,11 @@ class Unit(Structure):
 WrittenAnswer = answer_type(("length", c_uint64))
 ListedAnswer = answer_type(("count", c_uint64))
 
+# a frame, its size and start, and behind them what a draw and a rotation with previous lists take
+FRAMED = ("u32s", "u64s", "u32s", c_size_t, c_uint32)
+KEPT_DRAW = (*FRAMED, c_uint32, "u32s", "u32s", "u32s", "u64s")
+KEPT_ROTATION = (*FRAMED, "u32s", c_uint32, c_size_t, c_uint64, "u32s", c_uint32, "u32s", "u32s", "u32s")
+
 # name -> answer type and parameter types; a list is a pointer and a count
 SIGNATURES = {
     "vougecress_open": (c_uint32, ("u64s", "u32s", "u32s", c_uint64, "u64s")),
@@ -75,6 +80,11 @@ SIGNATURES = {
         RotatedAnswer,
         ("u32s", "u64s", "u32s", c_size_t, c_uint32, "u32s", c_uint32, c_size_t, c_uint64, "u32s", "u32s"),
     ),
+    "vougecress_take_all_units": (TakenAnswer, ("u32s", "u64s", c_size_t, c_uint32, "u32s", "u32s", "u32s")),
+    "vougecress_draw_kept": (DrawnAnswer, KEPT_DRAW),
+    "vougecress_draw_poisson_kept": (DrawnAnswer, KEPT_DRAW),
+    "vougecress_rotate_kept": (RotatedAnswer, KEPT_ROTATION),
+    "vougecress_rotate_poisson_kept": (RotatedAnswer, KEPT_ROTATION),
     "vougecress_load": (LoadAnswer, (c_uint64, c_size_t, "u32s", "u64s", "u32s")),
     "vougecress_sample": (SampleAnswer, (c_uint64, "u64s", "u64s")),
     "vougecress_import": (RegisterAnswer, ("octets", "u32s", "u64s", "u32s")),
@@ -260,6 +270,53 @@ def draw_poisson(*arguments, **data):
 
 def rotate_poisson(*arguments, **data):
     return rotate(*arguments, **data, entry="vougecress_rotate_poisson")
+
+
+# Firms at the border
+
+
+def take_all_units(numbers, turnovers, z, threshold, first, second, out_units):
+    answer, (*read, units) = call("vougecress_take_all_units", numbers, turnovers, z, threshold, first, second, out_units)
+    unchanged(read, (numbers, turnovers, first, second))
+    return refusal_of(answer) or Taken(answer.q, answer.n, answer.rest), units
+
+
+def kept_draw(numbers, turnovers, randoms, z, start, threshold, first, second, out_numbers, out_weights, name="vougecress_draw_kept"):
+    lists = (threshold, first, second, out_numbers, out_weights)
+    answer, (*read, after_numbers, after_weights) = call(name, numbers, turnovers, randoms, z, start, *lists)
+    unchanged(read, (numbers, turnovers, randoms, first, second))
+    return refusal_of(answer) or Drawn(answer.n, answer.rest), after_numbers, after_weights
+
+
+def kept_poisson_draw(**data):
+    return kept_draw(**data, name="vougecress_draw_poisson_kept")
+
+
+def kept_rotate(
+    numbers,
+    turnovers,
+    randoms,
+    z,
+    old_start,
+    old_panel,
+    f,
+    previous_n,
+    previous_rest,
+    births,
+    threshold,
+    first,
+    second,
+    out_leavers,
+    name="vougecress_rotate_kept",
+):
+    lists = (old_panel, f, previous_n, previous_rest, births, threshold, first, second, out_leavers)
+    answer, (*read, leavers) = call(name, numbers, turnovers, randoms, z, old_start, *lists)
+    unchanged(read, (numbers, turnovers, randoms, old_panel, births, first, second))
+    return refusal_of(answer) or Rotated(answer.k, answer.start, answer.count), leavers
+
+
+def kept_poisson_rotate(**data):
+    return kept_rotate(**data, name="vougecress_rotate_poisson_kept")
 
 
 def load(start, count, numbers, turnovers, randoms):

@@ -96,7 +96,8 @@ def caught_by(file, text, cases):
 # the suites that a module's definitions show in first; the others are tried if these accept
 NEAREST = {
     "TakeAll": ("frame",),
-    "Draw": ("frame",),
+    "Kept": ("kept",),
+    "Draw": ("frame", "kept"),
     "Selection": ("frame",),
     "Order": ("order",),
     "Rotation": ("rotation",),

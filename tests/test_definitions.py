@@ -9,9 +9,10 @@ import random
 
 import definitions
 from cases.frames import WORKED_BIRTHS
+from cases.kept import worked_lists
 from cases.samples import WORKED
 from definitions import number_list
-from independent import Refused, chain, frame, load, outside, panels, register, sample, sheet, stream, writing
+from independent import Refused, chain, frame, kept, load, outside, panels, register, sample, sheet, stream, writing
 from cases import registers, years
 from cases.outsides import outside_cases
 
@@ -72,6 +73,40 @@ def rotation_cases(numbers, turnovers, randoms, z, old, panel, f, room, births=(
     rest = rotation_text(numbers, turnovers, randoms, z, old, panel, f, room, births)
     yield f"rotationAnswer {rest}", judged(told, fields(step="k", start="new_start", leaving="count"))
     yield f"rotationLeavers {rest}", number_list(leavers)
+
+
+def keeping_text(threshold, first, second):
+    return f"(keeping {threshold} {number_list(first)} {number_list(second)})"
+
+
+def take_all_units_cases(numbers, turnovers, z, keeping, room):
+    told, after = frame.take_all_units(numbers, turnovers, z, *keeping, room)
+    rest = f"{number_list(numbers)} {number_list(turnovers)} {z} {keeping_text(*keeping)} {number_list(room)}"
+    yield f"takeAllUnitsAnswer {rest}", judged(told, fields(size="q", sampleSize="n", rest="X"))
+    yield f"takeAllUnits {rest}", number_list(after)
+
+
+METHODS = (("Method.pareto", frame.pareto_key), ("Method.sequentialPoisson", frame.poisson_key))
+
+
+def kept_draw_cases(lists, z, start, keeping, room_numbers, room_weights):
+    text = "(frame " + " ".join(map(number_list, lists)) + ")"
+    rest = f"{text} {z} {start} {keeping_text(*keeping)} {number_list(room_numbers)} {number_list(room_weights)}"
+    for method, key in METHODS:
+        told, numbers, weights = kept.draw(*lists, z, start, *keeping, room_numbers, room_weights, key=key)
+        yield f"keptDrawAnswer {rest}", judged(told, fields(sampleSize="n", rest="X"))
+        yield f"keptDrawNumbers {method} {rest}", number_list(numbers)
+        yield f"keptDrawWeights {method} {rest}", number_list(weights)
+
+
+def kept_rotation_cases(lists, z, old, panel, f, births, keeping, room, methods=METHODS):
+    n, x, units = births
+    text = "(frame " + " ".join(map(number_list, lists)) + ")"
+    rest = f"{text} {z} {old} {number_list(panel)} {f} (born {n} {x} {number_list(units)}) {keeping_text(*keeping)} {number_list(room)}"
+    for method, key in methods:
+        told, leavers = kept.rotate(*lists, z, old, panel, f, n, x, units, *keeping, room, key=key)
+        yield f"keptRotationAnswer {method} {rest}", judged(told, fields(step="k", start="new_start", leaving="count"))
+        yield f"keptRotationLeavers {method} {rest}", number_list(leavers)
 
 
 def frame_refusal_cases(numbers, turnovers, randoms, z, start):
@@ -372,6 +407,42 @@ def rotation_suite(rng, count):
         room = list(range(70, 70 + max(0, len(panel) + len(births[2]) + faulty(rng, rng.randint(0, 2), -1))))
         yield from rotation_cases(numbers, turnovers, randoms, z, old, panel, f, room, births)
         yield from poisson_rotation_cases(numbers, turnovers, randoms, z, old, panel, f, room, births)
+
+
+def some_keeping(rng, numbers, turnovers):
+    """γ often at a unit's border, and two lists of units, dead ones among them."""
+    units = sorted(set(numbers) | {4, 10})
+    first, second = (sorted(rng.sample(units, rng.randint(0, len(units)))) for _ in range(2))
+    border = 1_000 * rng.randint(1, 3) * rng.choice(turnovers) // max(1, sum(turnovers) // rng.randint(1, 4)) + rng.randint(-1, 1)
+    threshold = rng.choice([min(max(border, 1), 1_000), 1, 800, 1_000])
+    return (
+        faulty(rng, threshold, 0, 1_001),
+        faulty(rng, first, list(reversed(units)), list(range(101))),
+        faulty(rng, second, [5, 5], list(range(101))),
+    )
+
+
+def kept_suite(rng, count):
+    """Previous lists at each border, by either key; a rotation also with births."""
+    for _ in range(count):
+        lists = small_frame(rng)
+        numbers, turnovers, randoms = lists
+        z = faulty(rng, rng.randint(1, max(1, len(turnovers))), 0, len(turnovers) + 1)
+        start = faulty(rng, some_start(rng), 10**6)
+        keeping = some_keeping(rng, numbers, turnovers)
+        room = list(range(80, 80 + max(0, z + faulty(rng, rng.randint(0, 2), -1))))
+        yield from take_all_units_cases(numbers, turnovers, z, keeping, room)
+        yield from kept_draw_cases(lists, z, start, keeping, room, list(range(90, 90 + z)))
+        panel = sorted(rng.sample(sorted(set(numbers)), rng.randint(0, len(set(numbers)))))
+        panel = faulty(rng, panel, list(reversed(panel)), panel + panel[-1:])
+        units = sorted(rng.sample(sorted(set(numbers)), rng.randint(0, len(set(numbers)))))
+        births = (faulty(rng, rng.choice([1, 2, 100]), 101), rng.choice([1, sum(turnovers), 10**12]), faulty(rng, units, [4]))
+        room = list(range(70, 70 + max(0, len(panel) + len(births[2]) + faulty(rng, rng.randint(0, 2), -1))))
+        method = METHODS[rng.randrange(2)]
+        yield from kept_rotation_cases(lists, z, start, panel, rng.choice([0, 1, 500, 1_000]), births, keeping, room, [method])
+    for what, data in worked_lists():
+        lists = (data["numbers"], data["turnovers"], data["randoms"])
+        yield from kept_draw_cases(lists, data["z"], 0, (data["threshold"], data["first"], data["second"]), [7] * 4, [8] * 4)
 
 
 def open_suite(rng, count):
@@ -805,6 +876,7 @@ SUITES = {
     "frame": lambda rng, times: frame_suite(rng, 60 * times),
     "order": lambda rng, times: order_suite(rng, 30 * times),
     "rotation": lambda rng, times: rotation_suite(rng, 40 * times),
+    "kept": lambda rng, times: kept_suite(rng, 25 * times),
     "open": lambda rng, times: open_suite(rng, 90 * times),
     "outside": lambda rng, times: outside_suite(rng, 60 * times),
     "call": lambda rng, times: call_suite(rng, 90 * times),

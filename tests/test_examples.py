@@ -10,7 +10,7 @@ import commands
 import generate
 import library
 from cases.samples import WORKED
-from independent import Refused, chain, frame, load, outside, panels, register, sample, sheet
+from independent import Refused, chain, frame, kept, load, outside, panels, register, sample, sheet
 
 TOP = Path(__file__).resolve().parent.parent
 NUMBERS, TURNOVERS = [11, 12, 13, 14, 15], [70_000_000, 10_000_000, 8_000_000, 7_000_000, 5_000_000]
@@ -177,6 +177,23 @@ def test_one_year(t):
         t.check(refused or wanted in (TOP / "README.md").read_text(), "README.md shows it", wanted)
     done = subprocess.run([sys.executable, TOP / "examples" / "one_year.py", "1"], capture_output=True, text=True)
     t.check((done.returncode, done.stdout) == (2, ""), "wrong use", done)
+
+
+def test_kept(t):
+    """A firm at the border, as the example prints it and as README shows it."""
+    library.built()
+    numbers, randoms = [11, 12, 13, 14, 15], [300_000, 900_000, 200_000, 500_000, 100_000]
+    first, second = ([70_000_000, its, 8_000_000, 7_000_000, 5_000_000] for its in (25_000_000, 9_500_000))
+    taken, units = frame.take_all_units(numbers, first, 3, 600, [], [], [0] * 3)
+    before = units[: taken.q]
+    lines = ["take-all of the first year: " + " ".join(map(str, before))]
+    for name, listed in (("no list", []), ("with it", before)):
+        drawn, panel, _ = kept.draw(numbers, second, randoms, 3, 0, 600, listed, [], [0] * 3, [0] * 3)
+        lines.append(f"second year, {name}: panel {' '.join(map(str, panel))}, n {drawn.n}, X {drawn.X}")
+    wanted = "".join(line + "\n" for line in lines)
+    done = subprocess.run([sys.executable, TOP / "examples" / "kept.py"], capture_output=True, text=True)
+    t.check((done.returncode, done.stdout) == (0, wanted), "the firm at the border", done)
+    t.check(wanted in (TOP / "README.md").read_text(), "README.md shows it", wanted)
 
 
 def test_renewals(t):

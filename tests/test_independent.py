@@ -11,12 +11,12 @@ from itertools import islice
 
 import generate
 from cases.frames import WORKED_ANSWERS, worked_births
-from independent import Refused
+from independent import Refused, kept
 from cases.outsides import WORKED as OUTSIDE_WORKED
 from independent.chain import Direct, Figure, Record, Total, close, open_chain, quarter, total, within_bound, year
 from independent.panels import Course, Renewed, renew
 from independent.outside import OutsideDirect, inner_floor, open_outside, shared_weights
-from independent.frame import Drawn, Rotated, Taken, draw, pareto_key, poisson_key, rotate, take_all, take_all_entry
+from independent.frame import Drawn, Rotated, Taken, draw, pareto_key, poisson_key, rotate, take_all, take_all_entry, take_all_units
 from independent.stream import COMMANDS, END, Job, front_word, read_command, run, step
 from independent.sample import share
 from independent.register import BadLine, import_lists, line_number, units_of
@@ -48,6 +48,31 @@ def try_poisson_rotate(data):
 def try_take_all(data):
     answer, marks = take_all_entry(**data)
     return answer, marks == data["out_marks"]
+
+
+def try_take_all_units(data):
+    answer, units = take_all_units(**data)
+    return answer, units == data["out_units"]
+
+
+def try_kept_draw(data):
+    answer, numbers, weights = kept.draw(**data)
+    return answer, (numbers, weights) == (data["out_numbers"], data["out_weights"])
+
+
+def try_kept_poisson_draw(data):
+    answer, numbers, weights = kept.draw(**data, key=poisson_key)
+    return answer, (numbers, weights) == (data["out_numbers"], data["out_weights"])
+
+
+def try_kept_rotate(data):
+    answer, leavers = kept.rotate(**data)
+    return answer, leavers == data["out_leavers"]
+
+
+def try_kept_poisson_rotate(data):
+    answer, leavers = kept.rotate(**data, key=poisson_key)
+    return answer, leavers == data["out_leavers"]
 
 
 def try_rotate(data):
@@ -146,6 +171,11 @@ def try_read_all(data):
 ENTRIES = {
     "draw_cases": (try_draw, {1, 2, 3, 4, 5, 6}, 60, 3_000),
     "take_all_cases": (try_take_all, {1, 3, 5, 6}, 100, 5_000),
+    "take_all_units_cases": (try_take_all_units, {1, 2, 3, 5, 6, 30}, 100, 5_000),
+    "kept_draw_cases": (try_kept_draw, {1, 2, 3, 4, 5, 6, 30}, 100, 5_000),
+    "kept_poisson_draw_cases": (try_kept_poisson_draw, {1, 2, 3, 4, 5, 6, 30}, 60, 3_000),
+    "kept_rotate_cases": (try_kept_rotate, {1, 2, 3, 4, 5, 6, 30, 7, 25, 26, 8}, 30, 1_000),
+    "kept_poisson_rotate_cases": (try_kept_poisson_rotate, {1, 2, 3, 4, 5, 6, 30, 7, 25, 26, 8}, 30, 1_000),
     "rotate_cases": (try_rotate, {1, 2, 3, 4, 5, 6, 7, 25, 26, 8}, 30, 1_000),
     "poisson_draw_cases": (try_poisson_draw, {1, 2, 3, 4, 5, 6}, 60, 3_000),
     "poisson_rotate_cases": (try_poisson_rotate, {1, 2, 3, 4, 5, 6, 7, 25, 26, 8}, 30, 1_000),

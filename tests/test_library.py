@@ -6,9 +6,7 @@ import generate
 import library
 from cases.samples import WORKED
 from cases.years import LISTS
-from independent import Refused, chain, frame, load, outside, panels, register, sample, sheet, stream, writing
-from independent.chain import Figure, Record, within_bound
-from independent.panels import Course, Renewed
+from independent import Refused, chain, chain, frame, from, independent, kept, load, outside, panels, register, sample, sheet, stream, writing
 
 # Refusals that each entry has; each must be met many times.
 REFUSALS = {
@@ -17,6 +15,12 @@ REFUSALS = {
     "rotate_cases": {1, 2, 3, 4, 5, 6, 7, 25, 26, 8},
     "poisson_draw_cases": {1, 2, 3, 4, 5, 6},
     "poisson_rotate_cases": {1, 2, 3, 4, 5, 6, 7, 25, 26, 8},
+    "take_all_units_cases": {1, 2, 3, 5, 6, 30},
+    "kept_draw_cases": {1, 2, 3, 4, 5, 6, 30},
+    "kept_poisson_draw_cases": {1, 2, 3, 4, 5, 6, 30},
+    "large_kept_draw_cases": set(),
+    "kept_rotate_cases": {1, 2, 3, 4, 5, 6, 30, 7, 25, 26, 8},
+    "kept_poisson_rotate_cases": {1, 2, 3, 4, 5, 6, 30, 7, 25, 26, 8},
     "open_cases": {9, 10, 11, 12, 13, 21, 22},
     "outside_cases": {9, 10, 11, 12, 13, 21, 22, 29},
     "quarter_cases": {9, 13, 19, 23, 24},
@@ -79,6 +83,35 @@ def test_reference_cases(t):
 
 def test_take_all(t):
     compared(t, "take_all_cases", 400, 20_000, lambda d: library.take_all_entry(**d), lambda d: frame.take_all_entry(**d))
+
+
+def test_take_all_units(t):
+    compared(t, "take_all_units_cases", 300, 10_000, lambda d: library.take_all_units(**d), lambda d: frame.take_all_units(**d))
+
+
+def test_kept_draw(t):
+    """Draws with previous lists by either key, and with two lists of 100 from whole frames."""
+    compared(t, "kept_draw_cases", 300, 10_000, lambda d: library.kept_draw(**d), lambda d: kept.draw(**d))
+    poisson = frame.poisson_key
+    compared(t, "kept_poisson_draw_cases", 100, 5_000, lambda d: library.kept_poisson_draw(**d), lambda d: kept.draw(**d, key=poisson))
+    compared(t, "large_kept_draw_cases", 3, 30, lambda d: library.kept_draw(**d), lambda d: kept.draw(**d))
+
+
+def test_kept_rotate(t):
+    """Rotations with births and previous lists by either key."""
+    compared(t, "kept_rotate_cases", 60, 2_000, lambda d: library.kept_rotate(**d), lambda d: kept.rotate(**d))
+    poisson = frame.poisson_key
+    compared(t, "kept_poisson_rotate_cases", 40, 1_000, lambda d: library.kept_poisson_rotate(**d), lambda d: kept.rotate(**d, key=poisson))
+
+
+def test_no_lists(t):
+    """With no lists, and any threshold that 30 lets pass, the draw is the base draw and the group the base group."""
+    for case in generate.kept_draw_cases(t.seed + 1, t.count(100, 3_000)):
+        if case.intends == 0:
+            data = {**case.data, "first": [], "second": []}
+            base = {name: value for name, value in data.items() if name not in ("threshold", "first", "second")}
+            t.check(library.kept_draw(**data) == library.draw(**base), "no lists: the base draw", repeat=case)
+
 
 
 def test_draw(t):

@@ -12,7 +12,7 @@ from pathlib import Path
 
 import generate
 import library
-from independent import Refused, chain, frame, load, outside, panels, register, sample, sheet, stream, writing
+from independent import Refused, chain, frame, kept, load, outside, panels, register, sample, sheet, stream, writing
 
 TOP = Path(__file__).resolve().parent.parent
 TEXT = (TOP / "docs" / "METHOD.md").read_text()
@@ -133,6 +133,44 @@ def keys(numbers, turnovers, randoms, start, stratum, key):
         else:
             r = frame.shifted(randoms[place], start)
             yield f"unit {number}: r {r}, key {key(r, turnovers[place], stratum.n, stratum.X)}"
+
+
+class TakeAllUnits(Example):
+    """numbers, turnovers, z, threshold, first, second, units"""
+
+    def reckon(self):
+        handed = (*self.lists("numbers", "turnovers"), self.one("z"), self.one("threshold"), *self.lists("first", "second", "units"))
+        answer, after = frame.take_all_units(*handed)
+        self.same(library.take_all_units(*handed), (answer, after))
+        refused = isinstance(answer, Refused)
+        self.answers(answer, said("units", after), **({} if refused else {"q": answer.q, "n": answer.n, "X": answer.X}))
+
+
+class KeptDraw(Example):
+    """numbers, turnovers, randoms, z, start, threshold, first, second, panel, weights"""
+
+    def reckon(self):
+        register = (*self.lists("numbers", "turnovers", "randoms"), self.one("z"), self.one("start"), self.one("threshold"))
+        handed = (*register, *self.lists("first", "second", "panel", "weights"))
+        answer, panel, weights = kept.draw(*handed)
+        self.same(library.kept_draw(*handed), (answer, panel, weights))
+        refused = isinstance(answer, Refused)
+        self.answers(answer, *facts_of(panel=panel, weights=weights), **({} if refused else {"n": answer.n, "X": answer.X}))
+
+
+class KeptRotate(Example):
+    """numbers, turnovers, randoms, z, start, old, f, n, X, births, threshold, first, second, leavers"""
+
+    def reckon(self):
+        register = (*self.lists("numbers", "turnovers", "randoms"), self.one("z"), self.one("start"), self.given["old"])
+        births = (self.one("f"), self.one("n"), self.one("X"), self.given["births"], self.one("threshold"))
+        handed = (*register, *births, *self.lists("first", "second", "leavers"))
+        answer, after = kept.rotate(*handed)
+        self.same(library.kept_rotate(*handed), (answer, after))
+        if isinstance(answer, Refused):
+            self.answers(answer, said("leavers", after))
+        else:
+            self.answers(answer, said("leavers", after), k=answer.k, start=answer.new_start, count=answer.count)
 
 
 class Rotate(Example):
@@ -393,6 +431,9 @@ KINDS = {
     "rotate": Rotate,
     "draw-poisson": PoissonDraw,
     "rotate-poisson": PoissonRotate,
+    "take-all-units": TakeAllUnits,
+    "draw-kept": KeptDraw,
+    "rotate-kept": KeptRotate,
     "chain": Chain,
     "total": Total,
     "sample": Sample,
@@ -547,8 +588,11 @@ def year_answer(data):
 
 ENTRIES = {
     "take-all": (generate.take_all_cases, lambda data: frame.take_all_entry(**data)[0]),
+    "take-all-units": (generate.take_all_units_cases, lambda data: frame.take_all_units(**data)[0]),
     "draw": (generate.draw_cases, lambda data: frame.draw(**data)[0]),
+    "draw-kept": (generate.kept_draw_cases, lambda data: kept.draw(**data)[0]),
     "rotate": (generate.rotate_cases, lambda data: frame.rotate(**data)[0]),
+    "rotate-kept": (generate.kept_rotate_cases, lambda data: kept.rotate(**data)[0]),
     "open": (generate.open_cases, lambda data: chain.open_chain(**data)),
     "open with G": (generate.outside_cases, lambda data: outside.open_outside(**data)),
     "quarter": (generate.quarter_cases, lambda data: chain.quarter(record_of(data), data["p"])[1]),
@@ -660,6 +704,7 @@ WORDS = {
     25: [LIMIT["mostPanel"], LIMIT["mostTurnover"], 0],
     26: [LIMIT["mostFrame"]],
     29: [0, LIMIT["shareScale"], 0],
+    30: [0, LIMIT["thresholdScale"], LIMIT["mostPanel"]],
     31: [LIMIT["mostSectors"], LIMIT["mostInterviews"]],
     32: [LIMIT["nameColumns"], LIMIT["lowestPrintable"], LIMIT["highestPrintable"], *INDEX, LIMIT["lineBytes"]],
     33: [LIMIT["stateRange"], 0, LIMIT["mostFrame"]],

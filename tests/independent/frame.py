@@ -17,6 +17,7 @@ MOST_PANEL = 100
 WHOLE_FRACTION = 1_000
 STEP = 1_000
 LAST_STEP = 999
+THOUSAND = 1_000
 
 
 @dataclass(frozen=True)
@@ -68,17 +69,56 @@ def by_falling_key(keys, places):
     return sorted(places, key=lambda i: (-keys[i], i))
 
 
-def take_all(turnovers, z):
-    """The smallest q for which the test holds for at most q units of the whole frame."""
-    largest_first = by_falling_key(turnovers, range(len(turnovers)))
-    for q in range(z):
+def search(turnovers, units, places):
+    """The smallest q for which the test holds for at most q of these units; q, X and who the q largest are."""
+    largest_first = by_falling_key(turnovers, units)
+    for q in range(places):
         X = sum(turnovers[i] for i in largest_first[q:])
-        count = sum(1 for turnover in turnovers if reaches(z - q, turnover, X))
+        count = sum(1 for i in largest_first if reaches(places - q, turnovers[i], X))
         if count <= q:
-            return TakeAll(q, z - q, X, frozenset(largest_first[:q]))
+            return q, X, frozenset(largest_first[:q])
     # "If no q fits, q = z, n = 0 and X counts as 0 (cut-off)"; the sort above
     # puts equal turnovers by lower place, which is the lower unit number.
-    return TakeAll(z, 0, 0, frozenset(largest_first[:z]))
+    return places, 0, frozenset(largest_first[:places])
+
+
+def take_all(turnovers, z):
+    """The base search: over the whole frame."""
+    q, X, group = search(turnovers, range(len(turnovers)), z)
+    return TakeAll(q, z - q, X, group)
+
+
+# Firms at the border (document 02, [9])
+
+
+def kept_units(numbers, turnovers, base, threshold, *lists):
+    """Those of the sampled stratum that are kept: "At most n are kept, the largest first, equal turnovers by lower number." """
+    listed = {number for numbers_of_one in lists for number in numbers_of_one}
+    candidates = [
+        i
+        for i in range(len(turnovers))
+        if i not in base.group and numbers[i] in listed and THOUSAND * base.n * turnovers[i] >= threshold * base.X
+    ]
+    return frozenset(by_falling_key(turnovers, candidates)[: base.n])
+
+
+def enlarged(numbers, turnovers, z, threshold, first, second):
+    """ "With these forced, the search goes on over the remaining units and places": the enlarged group."""
+    base = take_all(turnovers, z)
+    forced = base.group | kept_units(numbers, turnovers, base, threshold, first, second)
+    remaining = [i for i in range(len(turnovers)) if i not in forced]
+    places = z - len(forced)
+    q, X, more = search(turnovers, remaining, places)
+    return TakeAll(len(forced) + q, places - q, X, forced | more)
+
+
+def previous_refusal(threshold, first, second):
+    """30, or None."""
+    if threshold == 0 or threshold > THOUSAND:
+        return 30
+    if any(len(one) > MOST_PANEL or not rising(one) for one in (first, second)):
+        return 30
+    return None
 
 
 # Draw
@@ -190,6 +230,29 @@ def take_all_entry(turnovers, z, out_marks):
     stratum = take_all(turnovers, z)
     marks = [1 if i in stratum.group else 0 for i in range(units)]
     return Taken(stratum.q, stratum.n, stratum.X), marks + out_marks[units:]
+
+
+def take_all_units(numbers, turnovers, z, threshold, first, second, out_units):
+    """The group as unit numbers, base (no lists) or enlarged: answer, and the buffer afterwards."""
+    units = len(turnovers)
+    refusal = None
+    if len(numbers) != units or units == 0 or units > MOST_UNITS:
+        refusal = 1
+    elif not rising(numbers):
+        refusal = 2
+    elif 0 in turnovers or sum(turnovers) > MOST_TURNOVER:
+        refusal = 3
+    elif size_is_wrong(z, units):
+        refusal = 5
+    elif len(out_units) < z:
+        refusal = 6
+    else:
+        refusal = previous_refusal(threshold, first, second)
+    if refusal is not None:
+        return Refused(refusal), list(out_units)
+    stratum = enlarged(numbers, turnovers, z, threshold, first, second)
+    group = sorted(numbers[i] for i in stratum.group)
+    return Taken(stratum.q, stratum.n, stratum.X), group + out_units[len(group) :]
 
 
 # Rotation

@@ -15,7 +15,7 @@ pub struct Drawn {
 }
 
 // The answer as C has it.
-fn shown(answer: draw::Answer) -> Drawn
+pub fn shown(answer: draw::Answer) -> Drawn
     ensures { λ r. ⌜ r ≡ drawnFrom (answerFrom answer) ⌝ }
 {
     match answer {

@@ -17,7 +17,7 @@ pub struct Rotated {
 }
 
 // The answer as C has it.
-fn shown(answer: rotation::Answer) -> Rotated
+pub fn shown(answer: rotation::Answer) -> Rotated
     ensures { λ r. ⌜ r ≡ rotatedFrom (answerFrom answer) ⌝ }
 {
     match answer {

@@ -28,6 +28,16 @@ use Rattle.draw.proofs.Intended.{z-weights}
 use Rattle.draw.proofs.draw_by.Reads as draw-reads
 use Rattle.chain_bound_draw.specs.Drawing.{DrawMade, drawnWeights}
 
+-- What demand 3 says of the weights ws, without an outside share.
+abbrev pub Covered : List ℕ → List ℕ → List ℕ → ℕ → List Made → List Event → Type 0
+Covered ws gs rs index list given = (given ≡ events (panelRecord (plain ws gs rs) index) list) × AllWithin (directOpen (plain ws gs rs) index) given
+
+-- w, the list that the open was handed, holds ws
+pub demand3-handed : (ws : List ℕ) (w g a : RefT (List ℕ)) (index : ℕ) (o : Opened) → now w ≡ ws → OpenMade w g a index o → o .answer ≡ Opening.Accepted →
+    (list : List Made) (given : List Event) → CallsMade (o .chain) list given → Covered ws (now g) (now a) index list given
+demand3-handed ws w g a index o handed opened accepted list given follow =
+    subst (λ (v : List ℕ). Covered v (now g) (now a) index list given) handed (demand3 _ index o (PanelOpened.without opened) accepted list given follow)
+
 -- A draw asks nothing of its caller.
 pub draw-asks :
     (κs : Lfts 5) (method : Method) (ns ts rs : RefT (List ℕ)) (z start : ℕ) (numbers weights : RefT (List ℕ))
@@ -58,10 +68,7 @@ module _ (method : Method) (ns ts rs : RefT (List ℕ)) (z start : ℕ) (numbers
       let size = z-weights (methodOf method) f z start (draw-accepted f z start (now numbers) (now weights) none .none) in
       ap (take z) all ∙ take-at panel (drop (length panel) (now weights)) z size
 
-  -- The theorem: w, the list that the open was handed, holds those first z places. (`plain` is an opening without an outside share.)
+  -- The theorem: w, the list that the open was handed, holds those first z places.
   pub demand3-drawn : (w g a : RefT (List ℕ)) (index : ℕ) (o : Opened) → now w ≡ take z ws → OpenMade w g a index o → o .answer ≡ Opening.Accepted →
-      (list : List Made) (given : List Event) → CallsMade (o .chain) list given →
-      let p = plain panel (now g) (now a) in (given ≡ events (panelRecord p index) list) × AllWithin (directOpen p index) given
-  demand3-drawn w g a index o handed opened accepted list given follow =
-      subst (λ (v : List ℕ). let p = plain v (now g) (now a) in (given ≡ events (panelRecord p index) list) × AllWithin (directOpen p index) given)
-      (handed ∙ weights-are) (demand3 _ index o (PanelOpened.without opened) accepted list given follow)
+      (list : List Made) (given : List Event) → CallsMade (o .chain) list given → Covered panel (now g) (now a) index list given
+  demand3-drawn w g a index o handed = demand3-handed panel w g a index o (handed ∙ weights-are)

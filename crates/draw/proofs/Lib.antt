@@ -1,3 +1,4 @@
 pub mod Accepted
 pub mod Intended
 pub mod Panel
+pub mod NoLists

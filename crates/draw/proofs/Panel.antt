@@ -1,6 +1,6 @@
--- The panel that is written is the definition's: the bridge's laws, at the take-all group of an accepted frame.
+-- The panel that is written is the definition's: the bridge's laws, at a sound group of an accepted frame.
 use mathlib.Core.Path.{_≡_, refl, ap₂, _∙_}
-use mathlib.Core.Bool.{Bool}
+use mathlib.Core.Bool.{Bool, cond}
 use mathlib.Core.List.{List}
 use Prim.Native.Nat.{ℕ, _≤_, _<_}
 use native.Mathlib.Omega.{arith}
@@ -9,15 +9,14 @@ use borrow.Author.Tests.{eq-eqb}
 use Rattle.rules.specs.Refusals.{written}
 use Rattle.rules.specs.Tests.{_or_}
 use Rattle.rules.specs.Selection.{count, listed}
-use Rattle.rules.specs.TakeAll.{Frame, takeAllGroup, baseWeight, Group as RulesGroup}
+use Rattle.rules.specs.TakeAll.{Frame, baseWeight, Group as RulesGroup}
 use Rattle.rules.specs.Draw.{drawnBy, panelNumbers, panelWeights, frameRefusal}
 use Rattle.rules.proofs.Tests.{by-test, not-both}
 use Rattle.frame.proofs.Accepted.{Accepted}
 use Rattle.selection.proofs.Sums.{sum-same}
 use Rattle.selection.proofs.Listed.{listed-both}
 use Rattle.group.specs.declared.Group.{Group}
-use Rattle.group.specs.Group.{IsGroup, Sound}
-use Rattle.group.proofs.Accepted.{sound}
+use Rattle.group.specs.Group.{rulesGroup, Agree, Sound}
 use Rattle.draw_key.specs.declared.Method.{Method}
 use Rattle.draw_key.specs.declared.Setting.{Setting}
 use Rattle.draw_key.specs.Methods.{methodOf}
@@ -30,36 +29,29 @@ use Rattle.draw_bound.specs.Bound.{within}
 use Rattle.draw_gaps.specs.Gaps.{Gaps}
 use Rattle.draw_gaps.proofs.Bridge.{gap-inside, units-of, keyless-size, sampled-is, drawn-is, weight-is}
 use Rattle.draw_panel.specs.Panel.{Weighable, Markable, weightBy, drawnOf}
-use Rattle.draw.proofs.Intended.{z-drawn}
+use Rattle.draw.proofs.Intended.{drawn-of}
 
--- a frame that no refusal stops, with its group, marks and gaps
-pub record Drawing (m : Method) (f : Frame) (z start : ℕ) (marks gs : List ℕ) (g : Group) : Type 0 where
+-- a frame that no refusal stops, with its group r, the marks and gaps
+pub record Drawing (m : Method) (f : Frame) (z start : ℕ) (r : RulesGroup) (marks gs : List ℕ) (g : Group) : Type 0 where
   pub none : frameRefusal f z start ≡ 0
   pub ok : Accepted f z start
-  pub group-is : IsGroup (f .turnovers) z marks g
+  pub sound-is : Sound (f .turnovers) z r
+  pub mark-is : (i : ℕ) → i < length (f .turnovers) → getD marks i 0 ≡ cond (r .takesAll i) 1 0
+  pub agrees : Agree (length (f .turnovers)) (rulesGroup marks (g .n) (g .rest)) r
   pub filled : Gaps (f .turnovers) marks m (g .n) (g .rest) gs
 
 abbrev pub settingOf : Method → ℕ → Group → Setting
 settingOf m start g = record { method = m; start = start; n = g .n; rest = g .rest }
 
-module _ {m : Method} {f : Frame} {z start : ℕ} {marks gs : List ℕ} {g : Group} (d : Drawing m f z start marks gs g) where
+module _ {m : Method} {f : Frame} {z start : ℕ} {r : RulesGroup} {marks gs : List ℕ} {g : Group} (d : Drawing m f z start r marks gs g) where
   abbrev s : Setting
   s = settingOf m start g
 
-  abbrev k : IsGroup (f .turnovers) z marks g
-  k = d .group-is
-
-  abbrev r : RulesGroup
-  r = takeAllGroup (f .turnovers) z
-
-  sound-here : Sound (f .turnovers) z r
-  sound-here = sound (f .turnovers) z (d .ok .units .sizeWithin)
-
   pub units-here : Units (f .turnovers) (f .randoms) gs s
-  units-here = units-of f s sound-here (k .agrees) (d .filled) (d .ok) (d .ok .startLow)
+  units-here = units-of f s (d .sound-is) (d .agrees) (d .filled) (d .ok) (d .ok .startLow)
 
   pub size-low : g .n ≤ z
-  size-low = omega (arith, sound-here .parts, k .agrees .size-is)
+  size-low = omega (arith, d .sound-is .parts, d .agrees .size-is)
 
   pub weighable : length (f .turnovers) ≤ length marks → Weighable (f .turnovers) marks s
   weighable room = record { total = d .ok .units .total; size-low = units-here .size-low; marks-room = room }
@@ -67,10 +59,10 @@ module _ {m : Method} {f : Frame} {z start : ℕ} {marks gs : List ℕ} {g : Gro
   -- ---- from marks
   pub markable : Markable (f .turnovers) gs marks
   markable = record {
-    low = λ i l. by-test (r .takesAll i) (λ h. rw (k .mark-is i l, h) (omega arith)) (λ h. rw (k .mark-is i l, h) (omega arith));
+    low = λ i l. by-test (r .takesAll i) (λ h. rw (d .mark-is i l, h) (omega arith)) (λ h. rw (d .mark-is i l, h) (omega arith));
     keyed = λ i l has. by-test (r .takesAll i)
-        (λ h. absurd (not-both (hasKey gs i) has (rw (eq-eqb (getD gs i 0) 0 (gap-inside f s sound-here (k .agrees) (d .filled) i l h)))))
-        (λ h. rw (k .mark-is i l, h));
+        (λ h. absurd (not-both (hasKey gs i) has (rw (eq-eqb (getD gs i 0) 0 (gap-inside f s (d .sound-is) (d .agrees) (d .filled) i l h)))))
+        (λ h. rw (d .mark-is i l, h));
   }
 
   abbrev drawn : ℕ → Bool
@@ -78,14 +70,14 @@ module _ {m : Method} {f : Frame} {z start : ℕ} {marks gs : List ℕ} {g : Gro
 
   drawn-here : (i : ℕ) → i < length (f .turnovers) → drawn i ≡ drawnBy (methodOf m) f r start i
   unfolding drawnBy
-  drawn-here i l = ap₂ (λ (a b : Bool). a or b) (k .agrees .takes i l) (sampled-is f s sound-here (k .agrees) (d .filled) i l)
+  drawn-here i l = ap₂ (λ (a b : Bool). a or b) (d .agrees .takes i l) (sampled-is f s (d .sound-is) (d .agrees) (d .filled) i l)
 
   pub drawn-size : count drawn (length (f .turnovers)) ≡ z
   unfolding count
-  drawn-size = sum-same drawn (drawnBy (methodOf m) f r start) (λ i. 1) (length (f .turnovers)) drawn-here ∙ z-drawn (methodOf m) f z start (d .none)
+  drawn-size = sum-same drawn (drawnBy (methodOf m) f r start) (λ i. 1) (length (f .turnovers)) drawn-here ∙ drawn-of (methodOf m) f z start (d .none) r (d .sound-is)
 
   weight-here : (i : ℕ) → i < length (f .turnovers) → weightBy (f .turnovers) marks s i ≡ baseWeight (f .turnovers) r i
-  weight-here = weight-is (f .turnovers) marks (k .agrees)
+  weight-here = weight-is (f .turnovers) marks (d .agrees)
 
   pub drawn-numbers : listed drawn (λ i. getD (f .numbers) i 0) (length (f .turnovers)) ≡ panelNumbers (methodOf m) f r start
   unfolding panelNumbers
@@ -102,8 +94,8 @@ module _ {m : Method} {f : Frame} {z start : ℕ} {marks gs : List ℕ} {g : Gro
 
     within-here : (i : ℕ) → i < length (f .turnovers) → bounded i ≡ drawnBy (methodOf m) f r start i
     within-here i l =
-        within-is units-here (keyless-size f s sound-here (k .agrees) (d .filled) (w .sampled)) (w .bounds) i l
-        ∙ drawn-is f s sound-here (k .agrees) (d .filled) (w .sampled) i l
+        within-is units-here (keyless-size f s (d .sound-is) (d .agrees) (d .filled) (w .sampled)) (w .bounds) i l
+        ∙ drawn-is f s (d .sound-is) (d .agrees) (d .filled) (w .sampled) i l
 
     pub found-here : Passing (length (f .turnovers)) found
     found-here = found-passing (f .turnovers) (f .randoms) gs s z found w

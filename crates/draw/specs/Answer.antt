@@ -1,8 +1,8 @@
--- What `draw_by` and `draw` answer and write, in the words of `rules`.
+-- What the draws answer and write, in the words of `rules`.
 use mathlib.Core.Path.{_≡_}
 use mathlib.Core.List.{List}
 use Prim.Native.Nat.{ℕ}
-use Rattle.rules.specs.TakeAll.{Frame, takeAllGroup, Group as RulesGroup}
+use Rattle.rules.specs.TakeAll.{Frame, Group as RulesGroup}
 use Rattle.rules.specs.Refusals.{Judged, written}
 use Rattle.rules.specs.Draw.{Method, Drawn, panelNumbers, panelWeights}
 use Rattle.refusals.specs.Number.{numberOf}
@@ -20,8 +20,8 @@ pub record IsSize (r : RulesGroup) (g : Group) : Type 0 where
   pub rest-is : g .rest ≡ r .rest
 
 -- the panel in the first places of a buffer: its unit numbers, and their W
-abbrev pub numbersOver : Method → Frame → ℕ → ℕ → List ℕ → List ℕ
-numbersOver m f z start buffer = written 0 (panelNumbers m f (takeAllGroup (f .turnovers) z) start) buffer
+abbrev pub numbersOver : Method → Frame → RulesGroup → ℕ → List ℕ → List ℕ
+numbersOver m f g start buffer = written 0 (panelNumbers m f g start) buffer
 
-abbrev pub weightsOver : Method → Frame → ℕ → ℕ → List ℕ → List ℕ
-weightsOver m f z start buffer = written 0 (panelWeights m f (takeAllGroup (f .turnovers) z) start) buffer
+abbrev pub weightsOver : Method → Frame → RulesGroup → ℕ → List ℕ → List ℕ
+weightsOver m f g start buffer = written 0 (panelWeights m f g start) buffer

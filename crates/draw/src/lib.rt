@@ -1,16 +1,18 @@
-// The draw (document 01, "Frame and weights" and "Draw"; 001, section 2.3 and formulas 21 and 22; document 02, [8]): a panel of z units of a frame, under a
-// start, by Pareto keys or by sequential Poisson keys.
+// The draw (document 01, "Frame and weights" and "Draw"; 001, section 2.3 and formulas 21 and 22; document 02, [8] and [9]): a panel of z units of a frame,
+// under a start, by Pareto keys or by sequential Poisson keys, with or without the take-all lists of previous draws.
 use draw_key::Method;
 use draw_key::Setting;
 use group::Group;
 use limits::MOST_FRAME;
+use limits::THRESHOLD_SCALE;
 use refusals::Refusal;
 use refusals::Verdict;
 ghost use mathlib.Core.Path.{_≡_};
 ghost use Prim.Native.Nat.{_≤_};
 ghost use lib.ListN.{length};
-ghost use Rattle.rules.specs.TakeAll.{frame, takeAllGroup};
-ghost use Rattle.rules.specs.Draw.{drawRefusal, drawAnswer, drawNumbersBy, drawWeightsBy, drawNumbers, drawWeights};
+ghost use Rattle.rules.specs.TakeAll.{frame};
+ghost use Rattle.rules.specs.Kept.{keeping, enlargedGroup};
+ghost use Rattle.rules.specs.Draw.{drawAnswer, drawNumbersBy, drawWeightsBy, drawNumbers, drawWeights, keptDrawRefusal, keptDrawAnswer, keptDrawNumbers, keptDrawWeights};
 ghost use Rattle.refusals.specs.Number.{verdictOf};
 ghost use Rattle.draw_key.specs.Methods.{methodOf};
 ghost use Rattle.draw.specs.Answer.{answerFrom, IsSize, numbersOver, weightsOver};
@@ -23,17 +25,22 @@ pub enum Answer {
     Refused(Refusal),
 }
 
-// Refusals 1 to 6: the lowest that applies.
+// Refusals 1 to 6 and 30: the first that applies.
 fn judge(
     numbers: &[u32],
     turnovers: &[u64],
     randoms: &[u32],
     z: usize,
     start: u32,
+    threshold: u32,
+    first: &[u32],
+    second: &[u32],
     panel: &[u32],
     weights: &[u64],
 ) -> Verdict
-    ensures { λ r. ⌜ verdictOf r ≡ drawRefusal (frame (now (numbers .entry)) (now (turnovers .entry)) (now (randoms .entry))) z start (now (panel .entry)) (now (weights .entry)) ⌝ }
+    ensures { λ r.
+        ⌜ verdictOf r ≡ keptDrawRefusal (frame (now (numbers .entry)) (now (turnovers .entry)) (now (randoms .entry))) z start
+        (keeping threshold (now (first .entry)) (now (second .entry))) (now (panel .entry)) (now (weights .entry)) ⌝ }
 {
     let verdict = frame::judge(numbers, turnovers, randoms, z, start);
     match verdict {
@@ -44,6 +51,9 @@ fn judge(
             }
             if weights.len() < z {
                 return Verdict::Refused(Refusal::ResultBuffer);
+            }
+            if group_keeping::bad_keeping(threshold, first, second) {
+                return Verdict::Refused(Refusal::PreviousLists);
             }
             Verdict::Accepted
         }
@@ -58,18 +68,25 @@ fn draw_with(
     randoms: &[u32],
     z: usize,
     start: u32,
+    threshold: u32,
+    first: &[u32],
+    second: &[u32],
     gaps: &mut [u64],
     marks: &mut [u8],
     panel: &mut [u32],
     weights: &mut [u64],
 ) -> Group
-    requires { ⌜ drawRefusal (frame (now numbers) (now turnovers) (now randoms)) z start (now panel) (now weights) ≡ 0 ⌝ }
+    requires { ⌜ keptDrawRefusal (frame (now numbers) (now turnovers) (now randoms)) z start (keeping threshold (now first) (now second)) (now panel) (now weights) ≡ 0 ⌝ }
     requires { ⌜ (length (now turnovers) ≤ length (now gaps)) × (length (now turnovers) ≤ length (now marks)) ⌝ }
-    ensures { λ g. ⌜ IsSize (takeAllGroup (now (turnovers .entry)) z) g ⌝ }
-    ensures { λ _. ⌜ now (panel .exit) ≡ numbersOver (methodOf method) (frame (now (numbers .entry)) (now (turnovers .entry)) (now (randoms .entry))) z start (now (panel .entry)) ⌝ }
-    ensures { λ _. ⌜ now (weights .exit) ≡ weightsOver (methodOf method) (frame (now (numbers .entry)) (now (turnovers .entry)) (now (randoms .entry))) z start (now (weights .entry)) ⌝ }
+    ensures { λ g. ⌜ IsSize (enlargedGroup (now (numbers .entry)) (now (turnovers .entry)) z (keeping threshold (now (first .entry)) (now (second .entry)))) g ⌝ }
+    ensures { λ _.
+        ⌜ now (panel .exit) ≡ numbersOver (methodOf method) (frame (now (numbers .entry)) (now (turnovers .entry)) (now (randoms .entry)))
+        (enlargedGroup (now (numbers .entry)) (now (turnovers .entry)) z (keeping threshold (now (first .entry)) (now (second .entry)))) start (now (panel .entry)) ⌝ }
+    ensures { λ _.
+        ⌜ now (weights .exit) ≡ weightsOver (methodOf method) (frame (now (numbers .entry)) (now (turnovers .entry)) (now (randoms .entry)))
+        (enlargedGroup (now (numbers .entry)) (now (turnovers .entry)) z (keeping threshold (now (first .entry)) (now (second .entry)))) start (now (weights .entry)) ⌝ }
 {
-    let g = group::find_group(turnovers, z, marks);
+    let g = group_kept::find_enlarged(numbers, turnovers, z, threshold, first, second, marks);
     draw_gaps::fill(turnovers, marks, method, g.n, g.rest, gaps);
     let s = Setting {
         method,
@@ -94,13 +111,20 @@ fn draw_panel(
     randoms: &[u32],
     z: usize,
     start: u32,
+    threshold: u32,
+    first: &[u32],
+    second: &[u32],
     panel: &mut [u32],
     weights: &mut [u64],
 ) -> Group
-    requires { ⌜ drawRefusal (frame (now numbers) (now turnovers) (now randoms)) z start (now panel) (now weights) ≡ 0 ⌝ }
-    ensures { λ g. ⌜ IsSize (takeAllGroup (now (turnovers .entry)) z) g ⌝ }
-    ensures { λ _. ⌜ now (panel .exit) ≡ numbersOver (methodOf method) (frame (now (numbers .entry)) (now (turnovers .entry)) (now (randoms .entry))) z start (now (panel .entry)) ⌝ }
-    ensures { λ _. ⌜ now (weights .exit) ≡ weightsOver (methodOf method) (frame (now (numbers .entry)) (now (turnovers .entry)) (now (randoms .entry))) z start (now (weights .entry)) ⌝ }
+    requires { ⌜ keptDrawRefusal (frame (now numbers) (now turnovers) (now randoms)) z start (keeping threshold (now first) (now second)) (now panel) (now weights) ≡ 0 ⌝ }
+    ensures { λ g. ⌜ IsSize (enlargedGroup (now (numbers .entry)) (now (turnovers .entry)) z (keeping threshold (now (first .entry)) (now (second .entry)))) g ⌝ }
+    ensures { λ _.
+        ⌜ now (panel .exit) ≡ numbersOver (methodOf method) (frame (now (numbers .entry)) (now (turnovers .entry)) (now (randoms .entry)))
+        (enlargedGroup (now (numbers .entry)) (now (turnovers .entry)) z (keeping threshold (now (first .entry)) (now (second .entry)))) start (now (panel .entry)) ⌝ }
+    ensures { λ _.
+        ⌜ now (weights .exit) ≡ weightsOver (methodOf method) (frame (now (numbers .entry)) (now (turnovers .entry)) (now (randoms .entry)))
+        (enlargedGroup (now (numbers .entry)) (now (turnovers .entry)) z (keeping threshold (now (first .entry)) (now (second .entry)))) start (now (weights .entry)) ⌝ }
 {
     if turnovers.len() <= SMALL_FRAME {
         let mut few = [0u64; SMALL_FRAME];
@@ -112,6 +136,9 @@ fn draw_panel(
             randoms,
             z,
             start,
+            threshold,
+            first,
+            second,
             &mut few,
             &mut ones,
             panel,
@@ -127,6 +154,9 @@ fn draw_panel(
         randoms,
         z,
         start,
+        threshold,
+        first,
+        second,
         &mut gaps,
         &mut marks,
         panel,
@@ -134,7 +164,68 @@ fn draw_panel(
     )
 }
 
-// Draws z units by the keys of a method: writes their numbers, in rising order, and their W into the first z places of the two lent buffers; answers n and X.
+// Draws z units by the keys of a method, with the group that a threshold and the take-all lists of up to two previous draws enlarge: writes their numbers, in
+// rising order, and their W into the first z places of the two lent buffers; answers n and X. An empty list is no list.
+pub fn draw_kept(
+    method: Method,
+    numbers: &[u32],
+    turnovers: &[u64],
+    randoms: &[u32],
+    z: usize,
+    start: u32,
+    threshold: u32,
+    first: &[u32],
+    second: &[u32],
+    panel: &mut [u32],
+    weights: &mut [u64],
+) -> Answer
+    ensures { λ r.
+        ⌜ answerFrom r ≡ keptDrawAnswer (frame (now (numbers .entry)) (now (turnovers .entry)) (now (randoms .entry))) z start
+        (keeping threshold (now (first .entry)) (now (second .entry))) (now (panel .entry)) (now (weights .entry)) ⌝ }
+    ensures { λ _.
+        ⌜ now (panel .exit) ≡ keptDrawNumbers (methodOf method) (frame (now (numbers .entry)) (now (turnovers .entry)) (now (randoms .entry))) z start
+        (keeping threshold (now (first .entry)) (now (second .entry))) (now (panel .entry)) (now (weights .entry)) ⌝ }
+    ensures { λ _.
+        ⌜ now (weights .exit) ≡ keptDrawWeights (methodOf method) (frame (now (numbers .entry)) (now (turnovers .entry)) (now (randoms .entry))) z start
+        (keeping threshold (now (first .entry)) (now (second .entry))) (now (panel .entry)) (now (weights .entry)) ⌝ }
+{
+    let verdict = judge(
+        numbers,
+        turnovers,
+        randoms,
+        z,
+        start,
+        threshold,
+        first,
+        second,
+        panel,
+        weights,
+    );
+    match verdict {
+        Verdict::Refused(why) => Answer::Refused(why),
+        Verdict::Accepted => {
+            let g = draw_panel(
+                method,
+                numbers,
+                turnovers,
+                randoms,
+                z,
+                start,
+                threshold,
+                first,
+                second,
+                panel,
+                weights,
+            );
+            Answer::Drawn {
+                n: g.n,
+                rest: g.rest,
+            }
+        }
+    }
+}
+
+// Draws z units by the keys of a method, with no previous lists: the group is the base search's.
 pub fn draw_by(
     method: Method,
     numbers: &[u32],
@@ -149,26 +240,19 @@ pub fn draw_by(
     ensures { λ _. ⌜ now (panel .exit) ≡ drawNumbersBy (methodOf method) (frame (now (numbers .entry)) (now (turnovers .entry)) (now (randoms .entry))) z start (now (panel .entry)) (now (weights .entry)) ⌝ }
     ensures { λ _. ⌜ now (weights .exit) ≡ drawWeightsBy (methodOf method) (frame (now (numbers .entry)) (now (turnovers .entry)) (now (randoms .entry))) z start (now (panel .entry)) (now (weights .entry)) ⌝ }
 {
-    let verdict = judge(numbers, turnovers, randoms, z, start, panel, weights);
-    match verdict {
-        Verdict::Refused(why) => Answer::Refused(why),
-        Verdict::Accepted => {
-            let g = draw_panel(
-                method,
-                numbers,
-                turnovers,
-                randoms,
-                z,
-                start,
-                panel,
-                weights,
-            );
-            Answer::Drawn {
-                n: g.n,
-                rest: g.rest,
-            }
-        }
-    }
+    draw_kept(
+        method,
+        numbers,
+        turnovers,
+        randoms,
+        z,
+        start,
+        THRESHOLD_SCALE,
+        &numbers[..0],
+        &numbers[..0],
+        panel,
+        weights,
+    )
 }
 
 // The Pareto draw.

@@ -26,6 +26,10 @@ pub const STEPS: u32 = 1000;
 
 pub const STEP_LENGTH: u32 = 1000;
 
+// ---- firms at the border
+// γ of 1, in thousandths.
+pub const THRESHOLD_SCALE: u32 = 1000;
+
 // ---- chain
 // A share of 1. Weights are 64-bit, and so is what divides them.
 pub const SHARE_SCALE: u64 = 10_000;

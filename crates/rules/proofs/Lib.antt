@@ -11,3 +11,4 @@ pub mod Renewals
 pub mod Leavers
 pub mod NoBirths
 pub mod Births
+pub mod Kept

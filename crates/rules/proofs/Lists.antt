@@ -15,7 +15,7 @@ use borrow.Author.Tests.{ltb-true, lt-ltb, le-ltb, eq-eqb, ne-eqb}
 use Rattle.rules.specs.Tests.{_or_, _and_}
 use Rattle.rules.specs.Refusals.{written}
 use Rattle.rules.specs.Lists.{sum, products, scaled, anyOf, anyPair, risesFrom, rising, elem}
-use Rattle.rules.proofs.Tests.{and-left, and-right, and-true, or-on, or-off, or-false, by-order}
+use Rattle.rules.proofs.Tests.{and-left, and-right, and-true, or-on, or-off, or-second, or-none, or-false, by-test, by-order}
 
 -- a turn at i takes the first element of what is left
 pub drop-step : (l : List ℕ) (i : ℕ) → i < length l → drop i l ≡ getD l i 0 ∷ drop (i + 1) l
@@ -313,3 +313,22 @@ elem-low x [] h = refl
 elem-low x (y ∷ ys) h =
     let l : x < y = h 0 (omega arith) in
     or-off (eqb x y) (anyOf (eqb x) ys) (ne-eqb x y (λ e. omega arith)) ∙ elem-low x ys (λ k g. h (suc k) (omega arith))
+
+-- what stands at a place stands in the list, and a number that stands at no place does not
+pub elem-place : (l : List ℕ) (k : ℕ) → k < length l → elem (getD l k 0) l ≡ true
+unfolding elem anyOf
+elem-place [] k h = absurd (not-suc-le-zero h)
+elem-place (y ∷ ys) zero h = or-on (eqb y y) (anyOf (eqb y) ys) (eq-eqb y y refl)
+elem-place (y ∷ ys) (suc k) h = or-second (eqb (getD ys k 0) y) (anyOf (eqb (getD ys k 0)) ys) (elem-place ys k (omega arith))
+
+pub elem-nowhere : (x : ℕ) (l : List ℕ) → ((k : ℕ) → k < length l → getD l k 0 ≡ x → ⊥) → elem x l ≡ false
+unfolding elem anyOf
+elem-nowhere x [] h = refl
+elem-nowhere x (y ∷ ys) h =
+    or-off (eqb x y) (anyOf (eqb x) ys) (ne-eqb x y (λ e. h 0 (omega arith) (sym e))) ∙ elem-nowhere x ys (λ k l. h (suc k) (omega arith))
+
+-- one number more at the end
+pub elem-last : (x y : ℕ) (l : List ℕ) → elem x (l ++ (y ∷ [])) ≡ (elem x l or eqb x y)
+unfolding elem anyOf _or_
+elem-last x y [] = or-none (eqb x y) false refl
+elem-last x y (z ∷ zs) = by-test (eqb x z) (λ e. rw e) (λ e. rw e (elem-last x y zs))

@@ -1,5 +1,5 @@
 -- Laws of refusals and answers (specs/Refusals.antt), cited by every crate: which number a sequence comes to, and what an answer and a buffer then are.
-use mathlib.Core.Path.{_≡_, refl}
+use mathlib.Core.Path.{_≡_, refl, ap}
 use mathlib.Core.Bool.{Bool, true, false}
 use mathlib.Core.List.{List, _++_}
 use lib.ListN.{length, drop}
@@ -81,3 +81,17 @@ written-goes n news buffer e = stays-goes n buffer _ e
 
 pub written-stops : (n : ℕ) (news buffer : List ℕ) → (n ≡ 0 → ⊥) → written n news buffer ≡ buffer
 written-stops n news buffer some = stays-stops n buffer _ some
+
+-- what follows a refusal need only be the same where none applies
+pub then-same : (a b c : ℕ) → (a ≡ 0 → b ≡ c) → (a then b) ≡ (a then c)
+unfolding _then_
+then-same zero b c h = h refl
+then-same (suc n) b c h = refl
+
+pub judged-same : {A : Type 0} (n : ℕ) (a b : A) → (n ≡ 0 → a ≡ b) → judged n a ≡ judged n b
+judged-same zero a b h = ap Judged.given (h refl)
+judged-same (suc n) a b h = refl
+
+pub written-same : (n : ℕ) (a b buffer : List ℕ) → (n ≡ 0 → a ≡ b) → written n a buffer ≡ written n b buffer
+written-same zero a b buffer h = ap (λ (xs : List ℕ). xs ++ drop (length xs) buffer) (h refl)
+written-same (suc n) a b buffer h = refl

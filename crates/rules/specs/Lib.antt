@@ -5,6 +5,7 @@ pub mod Lists
 pub mod Selection
 pub mod Order
 pub mod TakeAll
+pub mod Kept
 pub mod Draw
 pub mod Rotation
 pub mod Chain

@@ -31,6 +31,11 @@ steps = 1000
 abbrev pub stepLength : ℕ
 stepLength = 1000
 
+-- ---- firms at the border (document 02, [9], refusal 30)
+-- γ is in thousandths
+abbrev pub thresholdScale : ℕ
+thresholdScale = 1000
+
 -- ---- chain ("Chain record", refusals 9 to 13, 19, 21 to 24)
 -- a share of 1, in ten-thousandths of turnover
 abbrev pub shareScale : ℕ

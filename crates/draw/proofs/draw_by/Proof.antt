@@ -1,33 +1,15 @@
--- A refused verdict answers its number and leaves both buffers; an accepted one is what `draw_panel` asks for.
-use mathlib.Core.Path.{refl, sym, ap, ap₂, _∙_}
-use Prim.Native.Nat.{ℕ}
-use Rattle.rules.specs.Refusals.{Judged}
+-- `draw_by` meets its contract: it is the draw with no lists.
+use mathlib.Core.Path.{_∙_}
 use borrow.Author.Needs.{needs}
-use Rattle.rules.specs.Draw.{drawAnswer, drawNumbersBy, drawWeightsBy}
-use Rattle.refusals.specs.Number.{verdictOf}
-use Rattle.refusals.proofs.Numbers.{number-is-suc}
+use Rattle.draw.proofs.NoLists.{answer-same, numbers-same, weights-same}
 use Rattle.draw.proofs.draw_by.Statement.{statement}
 use Rattle.draw.proofs.draw_by.Tie as tie
 
-draw-panel-requires : tie.Need-draw-panel-requires
-draw-panel-requires c κs = sym (c .before .before .before .before .judge .ensures) ∙ ap verdictOf (c .before .before .enum-told .given .1)
-
 returns : tie.Need-returns
-unfolding drawAnswer drawNumbersBy drawWeightsBy
 returns c =
-    let v = c .before .verdict .given in
-    rw (sym (c .before .before .before .judge .ensures) ∙ ap verdictOf (v .1), number-is-suc (v .0 .0)) (refl, (refl, refl))
-
-returns-2 : tie.Need-returns-2
-unfolding drawAnswer drawNumbersBy drawWeightsBy
-returns-2 c =
-    let d = c .before .before .before .before in
-    let none = sym (d .before .before .before .before .before .judge .ensures) ∙ ap verdictOf (d .before .before .before .enum-told .given .1) in
-    let g = d .draw-panel .ensures in
-    rw none (ap₂ (λ (n x : ℕ). Judged.given (record { sampleSize = n; rest = x })) (g .0 .size-is) (g .0 .rest-is), g .1)
+    let d = c .before .before .before .before .draw-kept .ensures in
+    (d .0 ∙ answer-same _ _ _ _ _, (d .1 .0 ∙ numbers-same _ _ _ _ _ _, d .1 .1 ∙ weights-same _ _ _ _ _ _))
 
 pub draw-by-spec : {M : Type 1} → statement M
 draw-by-spec =
-    tie.close
-    (tie.spec (λ c κs. search needs) (λ c. search needs) (λ c. search needs) draw-panel-requires (λ c. search needs) (λ c. search needs) returns
-    (λ c. search needs) (λ c. search needs) returns-2)
+    tie.close (tie.spec (λ c. search needs) (λ c. search needs) (λ c κs. search needs) (λ c. search needs) (λ c. search needs) returns)

@@ -6,55 +6,71 @@ use native.Mathlib.Omega.{arith}
 use lib.ListN.{length}
 use borrow.Author.Needs.{needs}
 use Rattle.rules.specs.Refusals.{written}
-use Rattle.rules.specs.TakeAll.{frame, takeAllGroup}
-use Rattle.group.specs.declared.Group.{Group}
-use Rattle.group.specs.Group.{IsGroup}
-use Rattle.group.proofs.Accepted.{sized, sound}
-use Rattle.draw.specs.Answer.{IsSize}
-use Rattle.draw.proofs.Accepted.{DrawAccepted, draw-accepted}
+use Rattle.rules.specs.TakeAll.{frame, Group as RulesGroup}
+use Rattle.rules.specs.Kept.{keeping, enlargedGroup}
+use Rattle.group.specs.Group.{Sound}
+use Rattle.group_kept.proofs.Enlarged.{enlarged-sound}
+use Rattle.draw.proofs.Accepted.{DrawAccepted, KeptAccepted, kept-accepted}
 use Rattle.draw.proofs.Panel as panels
 use Rattle.draw.proofs.draw_with.Statement.{statement}
 use Rattle.draw.proofs.draw_with.Tie as tie
 
+all-ok : (s : tie.Start) →
+    let a = s .args in
+    KeptAccepted (frame (a .numbers .now) (a .turnovers .now) (a .randoms .now)) (a .z) (a .start) (keeping (a .threshold) (a .first .now) (a .second .now))
+    (a .panel .now) (a .weights .now)
+all-ok s = kept-accepted _ _ _ _ _ _ (s .pre .0)
+
 ok : (s : tie.Start) →
     let a = s .args in
     DrawAccepted (frame (a .numbers .now) (a .turnovers .now) (a .randoms .now)) (a .z) (a .start) (a .panel .now) (a .weights .now)
-ok s = draw-accepted _ _ _ _ _ (s .pre .0)
+ok s = all-ok s .drawn
 
-is-size : (ts : List ℕ) (z : ℕ) (marks : List ℕ) (g : Group) → IsGroup ts z marks g → IsSize (takeAllGroup ts z) g
-is-size ts z marks g k = record { size-is = k .agrees .size-is; rest-is = k .agrees .rest-is }
+-- the enlarged group of the definition
+abbrev groupOf : tie.Start → RulesGroup
+groupOf s = let a = s .args in enlargedGroup (a .numbers .now) (a .turnovers .now) (a .z) (keeping (a .threshold) (a .first .now) (a .second .now))
+
+group-sound : (s : tie.Start) → Sound (s .args .turnovers .now) (s .args .z) (groupOf s)
+group-sound s = enlarged-sound _ _ _ (ok s .frameOk .units .sizeWithin) _
 
 -- once the group is found
-module _ (c : tie.After-find-group) where
+module _ (c : tie.After-find-enlarged) where
   abbrev entry : tie.Start
-  entry = c .before .before .before .before .before .before .before .before .before
+  entry = c .before .before .before .before .before .before .before .before .before .before .before
 
   abbrev marks : List ℕ
-  marks = c .find-group .last .1 .1 .0
+  marks = c .find-enlarged .last .1 .1 .1 .1 .1 .1 .0
 
   marks-room : length (entry .args .turnovers .now) ≤ length marks
-  marks-room = omega (arith, c .find-group .kept .1 .1 .0, entry .pre .1 .1)
+  marks-room = omega (arith, c .find-enlarged .kept .1 .1 .1 .1 .1 .1 .0, entry .pre .1 .1)
 
 -- and the gaps are written
 module _ (c : tie.After-fill) where
-  abbrev group : tie.After-find-group
+  abbrev group : tie.After-find-enlarged
   group = c .before .before .before .before .before
 
   drawing :
       let a = entry group .args in
-      panels.Drawing (a .method) (frame (a .numbers .now) (a .turnovers .now) (a .randoms .now)) (a .z) (a .start) (marks group)
-      (c .fill .last .1 .1 .1 .1 .1 .0) (group .find-group .result)
+      panels.Drawing (a .method) (frame (a .numbers .now) (a .turnovers .now) (a .randoms .now)) (a .z) (a .start) (groupOf (entry group)) (marks group)
+      (c .fill .last .1 .1 .1 .1 .1 .0) (group .find-enlarged .result)
   drawing =
       let k = ok (entry group) in
-      record { none = k .none; ok = k .frameOk; group-is = group .find-group .ensures .0; filled = c .fill .ensures }
+      let is = group .find-enlarged .ensures in
+      record {
+        none = k .none;
+        ok = k .frameOk;
+        sound-is = group-sound (entry group);
+        mark-is = is .mark-is;
+        agrees = is .agrees;
+        filled = c .fill .ensures;
+      }
 
 fill-requires : tie.Need-fill-requires
 fill-requires c κs =
     let g = c .before .before .before .before in
     let k = ok (entry g) .frameOk .units in
-    let size = g .find-group .ensures .0 .agrees .size-is in
-    let a = entry g .args in
-    let parts = sound (a .turnovers .now) (a .z) (k .sizeWithin) .parts in
+    let size = g .find-enlarged .ensures .agrees .size-is in
+    let parts = group-sound (entry g) .parts in
     ((k .total, omega (arith, size, parts, k .sizeFew)), (marks-room g, entry g .pre .1 .0))
 
 write-found-requires : tie.Need-write-found-requires
@@ -87,7 +103,7 @@ returns c =
     let d = drawing f in
     let a = entry (group f) .args in
     let found = l .find .ensures (w .before .before .before .before .if1 .taken) in (
-      is-size _ _ _ _ (d .group-is),
+      record { size-is = d .agrees .size-is; rest-is = d .agrees .rest-is },
       (
         w .write-found .ensures .0 ∙ ap (λ (xs : List ℕ). written 0 xs (a .panel .now)) (panels.found-numbers d _ found),
         w .write-found .ensures .1 ∙ ap (λ (xs : List ℕ). written 0 xs (a .weights .now)) (panels.found-weights d _ found),
@@ -100,7 +116,7 @@ returns-2 c =
     let f = w .before .before .before .before .before .before .before .before .before .before in
     let d = drawing f in
     let a = entry (group f) .args in (
-      is-size _ _ _ _ (d .group-is),
+      record { size-is = d .agrees .size-is; rest-is = d .agrees .rest-is },
       (
         w .write-ordered .ensures .0 ∙ ap (λ (xs : List ℕ). written 0 xs (a .panel .now)) (panels.drawn-numbers d),
         w .write-ordered .ensures .1 ∙ ap (λ (xs : List ℕ). written 0 xs (a .weights .now)) (panels.drawn-weights d),
@@ -110,6 +126,6 @@ returns-2 c =
 pub draw-with-spec : {M : Type 1} → statement M
 draw-with-spec =
     tie.close
-    (tie.spec (λ c κs. let s = c .before .before .before .before .before .before .before .before in (sized _ _ (ok s .frameOk .units), s .pre .1 .1)) fill-requires
+    (tie.spec (λ c κs. let s = c .before .before .before .before .before .before .before .before .before .before in (all-ok s .ready, s .pre .1 .1)) fill-requires
     (λ c κs. panels.units-here (drawing (c .before .before .before))) write-found-requires (λ c. search needs) (λ c. search needs) (λ c. search needs) (λ c. search needs)
     returns write-ordered-requires (λ c. search needs) (λ c. search needs) (λ c. search needs) (λ c. search needs) returns-2)

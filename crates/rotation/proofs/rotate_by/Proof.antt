@@ -1,21 +1,15 @@
--- `rotate_by` meets its contract: a refusal of 1 to 7, 25 or 26 stops it with the buffer whole, otherwise `turn` goes on.
-use mathlib.Core.Path.{sym, ap, _∙_}
+-- `rotate_by` meets its contract: it is the rotation with no lists.
+use mathlib.Core.Path.{_∙_}
 use borrow.Author.Needs.{needs}
-use Rattle.refusals.specs.Number.{verdictOf}
-use Rattle.rotation.proofs.Composition.{refused-early}
+use Rattle.rotation.proofs.NoLists.{answer-same, leavers-same}
 use Rattle.rotation.proofs.rotate_by.Statement.{statement}
 use Rattle.rotation.proofs.rotate_by.Tie as tie
 
-turn-requires : tie.Need-turn-requires
-turn-requires c κs = sym (c .before .before .before .judge .ensures) ∙ ap verdictOf (c .before .enum-told .given .1)
-
 returns : tie.Need-returns
 returns c =
-    let v = c .before .verdict .given in
-    refused-early _ _ _ _ _ _ _ _ (v .0 .0) (sym (ap verdictOf (v .1)) ∙ c .before .before .before .judge .ensures)
+    let d = c .before .before .rotate-kept .ensures in
+    (d .0 ∙ answer-same _ _ _ _ _ _ _ _, d .1 ∙ leavers-same _ _ _ _ _ _ _ _)
 
 pub rotate-by-spec : {M : Type 1} → statement M
 rotate-by-spec =
-    tie.close
-    (tie.spec (λ c κs. search needs) (λ c. search needs) (λ c. search needs) turn-requires (λ c. search needs) returns (λ c. search needs)
-    (λ c. c .before .before .turn .ensures))
+    tie.close (tie.spec (λ c. search needs) (λ c. search needs) (λ c κs. search needs) (λ c. search needs) returns)

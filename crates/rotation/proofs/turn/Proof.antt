@@ -9,44 +9,47 @@ use borrow.Author.Needs.{needs}
 use Rattle.rules.specs.Limits.{mostFrame}
 use Rattle.rules.specs.Selection.{listed}
 use Rattle.rules.specs.TakeAll.{frame}
+use Rattle.rules.specs.Kept.{Keeping, keeping}
 use Rattle.rules.specs.Rotation.{Births, born, member, required}
 use Rattle.frame.proofs.Accepted.{Accepted}
 use Rattle.selection.proofs.Held.{held-room}
 use Rattle.group.specs.Group.{marked}
-use Rattle.group.proofs.Accepted.{sized, sound}
 use Rattle.rotation_members.proofs.Filling.{fill-held, fill-few}
 use Rattle.rotation_step.specs.Search.{Searched}
 use Rattle.rotation_step.proofs.Starts.{moved}
 use Rattle.rotation_judge.proofs.Accepted.{ListsAccepted}
-use Rattle.rotation.proofs.Composition.{frame-ok, lists-ok, searched, turn-refused, turn-given}
+use Rattle.rotation.proofs.Composition.{frame-ok, lists-ok, ready, group-sound, searched, turn-refused, turn-given}
 use Rattle.rotation.proofs.turn.Statement.{statement}
 use Rattle.rotation.proofs.turn.Tie as tie
 
--- what refusals 1 to 7, 25 and 26 leave of the arguments
+-- what refusals 1 to 6, 30, 7, 25 and 26 leave of the arguments
 module _ (s : tie.Start) where
   abbrev newborn : Births
   newborn = born (s .args .previous .n) (s .args .previous .rest) (s .args .births .now)
 
-  whole : Accepted (frame (s .args .numbers .now) (s .args .turnovers .now) (s .args .randoms .now)) (s .args .z) (s .args .previous .start)
-  whole = frame-ok (s .args .method) _ _ _ _ _ _ _ newborn _ (s .pre)
+  abbrev given : Keeping
+  given = keeping (s .args .threshold) (s .args .first .now) (s .args .second .now)
 
-  lists : ListsAccepted (s .args .panel .now) (s .args .fraction) newborn (s .args .leavers .now)
-  lists = lists-ok (s .args .method) _ _ _ _ _ _ _ newborn _ (s .pre)
+  whole : Accepted (frame (s .args .numbers .now) (s .args .turnovers .now) (s .args .randoms .now)) (s .args .z) (s .args .previous .start)
+  whole = frame-ok (s .args .method) _ _ _ _ _ _ _ newborn given _ (s .pre)
+
+  lists : ListsAccepted (s .args .panel .now) (s .args .fraction) newborn given (s .args .leavers .now)
+  lists = lists-ok (s .args .method) _ _ _ _ _ _ _ newborn given _ (s .pre)
 
 -- there is a mark for each unit
 marks-room :
-    (c : tie.After-find-group) →
-    let s = c .before .before .before .before .before .before .before .before in
-    length (s .args .turnovers .now) ≤ length (c .find-group .last .1 .1 .0)
-marks-room c = rw (c .find-group .kept .1 .1 .0) (whole (c .before .before .before .before .before .before .before .before) .units .few)
+    (c : tie.After-find-enlarged) →
+    let s = c .before .before .before .before .before .before .before .before .before .before in
+    length (s .args .turnovers .now) ≤ length (c .find-enlarged .last .1 .1 .1 .1 .1 .1 .0)
+marks-room c = rw (c .find-enlarged .kept .1 .1 .1 .1 .1 .1 .0) (whole (c .before .before .before .before .before .before .before .before .before .before) .units .few)
 
 -- once the members are found
 module _ (c : tie.After-members) where
   abbrev entry : tie.Start
-  entry = c .before .before .before .before .before .before .before .before .before .before .before .before .before .before .before .before
+  entry = c .before .before .before .before .before .before .before .before .before .before .before .before .before .before .before .before .before .before
 
   -- the group and the gaps, found before
-  abbrev found : tie.After-find-group
+  abbrev found : tie.After-find-enlarged
   found = c .before .before .before .before .before .before .before .before
 
   abbrev filled : tie.After-fill
@@ -54,7 +57,7 @@ module _ (c : tie.After-members) where
 
   -- the marks, the list, and the places of the members in front of it
   abbrev marks : List ℕ
-  marks = found .find-group .last .1 .1 .0
+  marks = found .find-enlarged .last .1 .1 .1 .1 .1 .1 .0
 
   abbrev places : List ℕ
   places = c .members .last .1 .1 .1 .1 .1 .1 .1 .0
@@ -79,10 +82,10 @@ module _ (c : tie.After-members) where
 
   asked :
       let a = entry .args in
-      let g = found .find-group .result in
+      let g = found .find-enlarged .result in
       Searched (a .turnovers .now) (a .randoms .now) (filled .fill .last .1 .1 .1 .1 .1 .0) units
       (record { method = a .method; start = a .previous .start; n = g .n; rest = g .rest }) (a .z)
-  asked = searched (entry .args .method) _ _ _ _ _ _ _ (newborn entry) _ (entry .pre) _ _ (found .find-group .ensures .0) _ (filled .fill .ensures) _ units-are
+  asked = searched (entry .args .method) _ _ _ _ _ _ _ (newborn entry) (given entry) _ (entry .pre) _ _ (found .find-enlarged .ensures) _ (filled .fill .ensures) _ units-are
 
 -- once it is known how many must leave
 need-is : (c : tie.After-required) → c .required .result ≡ required (entry (c .before .before) .args .fraction) (length (units (c .before .before)))
@@ -90,15 +93,15 @@ need-is c = c .required .ensures ∙ ap (required (entry (c .before .before) .ar
 
 fill-requires : tie.Need-fill-requires
 fill-requires c κs =
-    let s = c .before .before .before .before .before .before .before .before .before .before .before in
+    let s = c .before .before .before .before .before .before .before .before .before .before .before .before .before in
     let k = whole s .units in
-    let size = c .before .before .before .find-group .ensures .0 .agrees .size-is in
-    let parts = sound (s .args .turnovers .now) (s .args .z) (k .sizeWithin) .parts in
+    let size = c .before .before .before .find-enlarged .ensures .agrees .size-is in
+    let parts = group-sound (s .args .method) _ _ _ _ _ _ _ (newborn s) (given s) _ (s .pre) .parts in
     ((k .total, omega (arith, size, parts, k .sizeFew)), (marks-room (c .before .before .before), k .few))
 
 members-requires : tie.Need-members-requires
 members-requires c κs =
-    let s = c .before .before .before .before .before .before .before .before .before .before .before .before .before .before .before in
+    let s = c .before .before .before .before .before .before .before .before .before .before .before .before .before .before .before .before .before in
     let f = whole s in
     let l = lists s in
     let marked-all = marks-room (c .before .before .before .before .before .before .before) in (
@@ -121,7 +124,7 @@ returns c =
     let k = c .before in
     let n = k .before .before .before in
     let m = n .before .before in
-    turn-refused (entry m .args .method) _ _ _ _ _ _ _ (newborn (entry m)) _ (entry m .pre) _ _ (found m .find-group .ensures .0) _ (filled m .fill .ensures) _ (units-are m) _ _
+    turn-refused (entry m .args .method) _ _ _ _ _ _ _ (newborn (entry m)) (given (entry m)) _ (entry m .pre) _ _ (found m .find-enlarged .ensures) _ (filled m .fill .ensures) _ (units-are m) _ _
     (k .first-step .ensures) (need-is n) (c .if1 .taken)
 
 write-requires : tie.Need-write-requires
@@ -141,13 +144,15 @@ returns-2 c =
     let k = at .before .before in
     let n = k .before .before .before in
     let m = n .before .before in
-    turn-given (entry m .args .method) _ _ _ _ _ _ _ (newborn (entry m)) _ (entry m .pre) _ _ (found m .find-group .ensures .0) _ (filled m .fill .ensures) _ (units-are m) _ _
+    turn-given (entry m .args .method) _ _ _ _ _ _ _ (newborn (entry m)) (given (entry m)) _ (entry m .pre) _ _ (found m .find-enlarged .ensures) _ (filled m .fill .ensures) _ (units-are m) _ _
     (k .first-step .ensures) (need-is n) _ (at .setting-at .ensures) (at .before .if1 .left) _ (w .write .ensures .0) _ (w .write .ensures .1)
 
 pub turn-spec : {M : Type 1} → statement M
 turn-spec =
     tie.close
-    (tie.spec (λ c. search needs) (λ c κs. let k = whole (c .before .before .before .before .before .before .before) .units in (sized _ _ k, k .few)) (λ c. search needs) (λ c. search needs) fill-requires
+    (tie.spec (λ c. search needs) (λ c κs.
+    let s = c .before .before .before .before .before .before .before .before .before in
+    (ready (s .args .method) _ _ _ _ _ _ _ (newborn s) (given s) _ (s .pre), whole s .units .few)) (λ c. search needs) (λ c. search needs) fill-requires
     (λ c. search needs) (λ c. search needs) members-requires (λ c κs. (lists (entry (c .before)) .scaled, few (c .before))) (λ c. room (c .before .before))
     (λ c. sym (many (c .before .before .before))) (λ c. search needs) (λ c κs. asked (c .before .before .before .before)) returns
     (λ c κs. (whole (entry (c .before .before .before .before .before .before)) .startLow, omega arith)) (λ c. search needs) write-requires (λ c. search needs) returns-2)

@@ -1,0 +1,4 @@
+pub mod Parts
+pub mod Enlarged
+pub mod Taking
+pub mod Accepted
