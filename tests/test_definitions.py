@@ -440,6 +440,9 @@ def kept_suite(rng, count):
         room = list(range(70, 70 + max(0, len(panel) + len(births[2]) + faulty(rng, rng.randint(0, 2), -1))))
         method = METHODS[rng.randrange(2)]
         yield from kept_rotation_cases(lists, z, start, panel, rng.choice([0, 1, 500, 1_000]), births, keeping, room, [method])
+    hundred, more = list(range(100)), list(range(101))
+    for keeping in ((1, hundred, []), (1_000, [], hundred), (800, more, []), (800, [], more), (0, [], []), (1_001, [], [])):
+        yield from take_all_units_cases([1, 2, 3], [12, 2, 1], 1, keeping, [7])  # 30 at each limit from both sides
     for what, data in worked_lists():
         lists = (data["numbers"], data["turnovers"], data["randoms"])
         yield from kept_draw_cases(lists, data["z"], 0, (data["threshold"], data["first"], data["second"]), [7] * 4, [8] * 4)

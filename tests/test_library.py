@@ -6,7 +6,9 @@ import generate
 import library
 from cases.samples import WORKED
 from cases.years import LISTS
-from independent import Refused, chain, chain, frame, from, independent, kept, load, outside, panels, register, sample, sheet, stream, writing
+from independent import Refused, chain, frame, kept, load, outside, panels, register, sample, sheet, stream, writing
+from independent.chain import Figure, Record, within_bound
+from independent.panels import Course, Renewed
 
 # Refusals that each entry has; each must be met many times.
 REFUSALS = {

@@ -82,17 +82,17 @@ pub extern "C" fn vougecress_rotate_poisson(
     from: u32,
     panel: &[u32],
     fraction: u32,
-    size: usize,
+    previous: usize,
     rest: u64,
     births: &[u32],
     leavers: &mut [u32],
 ) -> Rotated
     ensures { λ r.
         ⌜ r ≡ rotatedFrom (rotationAnswerBy KeyMethod.sequentialPoisson (frame (now (numbers .entry)) (now (turnovers .entry)) (now (randoms .entry))) z from (now (panel .entry))
-        fraction (born size rest (now (births .entry))) (now (leavers .entry))) ⌝ }
+        fraction (born previous rest (now (births .entry))) (now (leavers .entry))) ⌝ }
     ensures { λ _.
         ⌜ now (leavers .exit) ≡ rotationLeaversBy KeyMethod.sequentialPoisson (frame (now (numbers .entry)) (now (turnovers .entry)) (now (randoms .entry))) z from (now (panel .entry))
-        fraction (born size rest (now (births .entry))) (now (leavers .entry)) ⌝ }
+        fraction (born previous rest (now (births .entry))) (now (leavers .entry)) ⌝ }
 {
     let answer = rotation::rotate_by(
         Method::SequentialPoisson,
@@ -103,7 +103,7 @@ pub extern "C" fn vougecress_rotate_poisson(
         from,
         panel,
         fraction,
-        size,
+        previous,
         rest,
         births,
         leavers,
