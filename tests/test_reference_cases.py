@@ -25,14 +25,14 @@ CLOSING = [105_000, 98_000, 120_000]
 QUARTERLY = [100_000, 100_000, 101_000]
 
 
-def panel(numbers, turnovers, randoms, z):
+def panel(numbers, turnovers, randoms, z, key=frame.pareto_key):
     """The unit numbers drawn from start 0."""
-    return draw(numbers, turnovers, randoms, z, 0, [0] * z, [0] * z)[1]
+    return draw(numbers, turnovers, randoms, z, 0, [0] * z, [0] * z, key=key)[1]
 
 
-def k2_panel():
+def k2_panel(key=frame.pareto_key):
     """Frame A with the random number of 15 set to 220,000."""
-    return panel(NUMBERS, TURNOVERS, RANDOMS[:4] + [220_000], 3)
+    return panel(NUMBERS, TURNOVERS, RANDOMS[:4] + [220_000], 3, key)
 
 
 def k9_panel():
@@ -141,8 +141,8 @@ def test_named_mistakes(t):
     with mistaken(frame, "reaches", lambda places, turnover, X: places * turnover > X):
         t.check(take_all([20, 10, 10], 2).q == 0, "'greater than' breaks K3", take_all([20, 10, 10], 2))
     over_probability = lambda r, turnover, n, X: Fraction(r * X, n * turnover)
-    with mistaken(frame, "key", over_probability):
-        t.check(k2_panel() == [11, 13, 15], "r over probability takes 15 in K2", k2_panel())
+    mistaken_panel = k2_panel(over_probability)
+    t.check(mistaken_panel == [11, 13, 15], "r over probability takes 15 in K2", mistaken_panel)
     with mistaken(frame, "order", lambda its_key, number: (its_key, -number)):
         t.check(k9_panel() == [3], "ties by higher number break K9", k9_panel())
     with mistaken(chain, "LOWEST_RELATIVE", 24_999):
