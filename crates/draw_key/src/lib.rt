@@ -4,6 +4,8 @@ use draw_fraction::Fraction;
 use limits::RANDOM_RANGE;
 ghost use mathlib.Core.Path.{_≡_};
 ghost use Prim.Native.Nat.{_-_, _*_, _<_, _≤_};
+ghost use mathlib.Core.Bool.{cond};
+ghost use lib.Dec.{ltb};
 ghost use lib.ListN.{length};
 ghost use Rattle.rules.specs.Limits.{mostTurnover, randomRange, mostPanel};
 ghost use Rattle.rules.specs.Draw.{shifted};
@@ -30,16 +32,25 @@ pub struct Permanent(pub u32);
 // The random number as counted from a start, r: another quantity, though also below 1,000,000.
 pub struct Shifted(pub u32);
 
+// "plus 1,000,000 if R < s": what is added.
+fn added(random: u32, start: u32) -> u32
+    ensures { λ r. ⌜ r ≡ cond (ltb random start) randomRange 0 ⌝ }
+{
+    if random < start {
+        return RANDOM_RANGE;
+    }
+    0
+}
+
 impl Permanent {
     // "r = R − s, plus 1,000,000 if R < s" (formula 21): the only way from the one to the other.
     pub fn shift(self, start: u32) -> Shifted
         requires { ⌜ (self .0 < randomRange) × (start < randomRange) ⌝ }
         ensures { λ r. ⌜ r .0 ≡ shifted start (self .0) ⌝ }
     {
-        if self.0 < start {
-            return Shifted(self.0 + RANDOM_RANGE - start);
-        }
-        Shifted(self.0 - start)
+        let random = self.0;
+        let more = added(random, start);
+        Shifted(random + more - start)
     }
 }
 
