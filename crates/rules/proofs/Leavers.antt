@@ -13,13 +13,13 @@ use Rattle.rules.specs.Draw.{shifted, keyNumerator, keyDenominator, frac
 use Rattle.rules.specs.Rotation.{Rotated, born, oldMember, withinPrevious, joins, member, members, required, startAt, leaves, suffices, leastStep, leavers, shortLeavers, badOldPanel, badPrevious, badBirths, listsRefusal, rotationRefusal, rotationAnswerBy, rotationLeaversBy, rotationAnswer, rotationLeavers}
 
 abbrev six : Frame
-six = frame (1 ∷ 2 ∷ 3 ∷ 4 ∷ 5 ∷ 6 ∷ []) (10 ∷ 30 ∷ 20 ∷ 30 ∷ 25 ∷ 15 ∷ []) (100000 ∷ 50000 ∷ 150000 ∷ 20000 ∷ 900000 ∷ 950000 ∷ [])
+six = frame (1 ∷ 2 ∷ 3 ∷ 4 ∷ 5 ∷ 6 ∷ []) (10 ∷ 30 ∷ 20 ∷ 30 ∷ 25 ∷ 15 ∷ []) (2000 ∷ 1000 ∷ 3000 ∷ 500 ∷ 900000 ∷ 950000 ∷ [])
 
 abbrev room : List ℕ
 room = 0 ∷ 0 ∷ 0 ∷ 0 ∷ 0 ∷ 7 ∷ []
 
 pub record InOrder : Type 0 where
-  all-leave : rotationAnswer six 1 0 (1 ∷ 2 ∷ 3 ∷ 4 ∷ []) 1000 (born 0 0 []) room ≡ Judged.given (record { step = 151; start = 151000; leaving = 4 })
+  all-leave : rotationAnswer six 1 0 (1 ∷ 2 ∷ 3 ∷ 4 ∷ []) 1000 (born 0 0 []) room ≡ Judged.given (record { step = 4; start = 4000; leaving = 4 })
   all-written : rotationLeavers six 1 0 (1 ∷ 2 ∷ 3 ∷ 4 ∷ []) 1000 (born 0 0 []) room ≡ 2 ∷ 4 ∷ 3 ∷ 1 ∷ 0 ∷ 7 ∷ []
   more-than-required : rotationLeavers six 1 0 (1 ∷ 2 ∷ 3 ∷ 4 ∷ []) 250 (born 0 0 []) room ≡ 2 ∷ 3 ∷ 1 ∷ 0 ∷ 0 ∷ 7 ∷ []
 
