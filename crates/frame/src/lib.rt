@@ -35,18 +35,19 @@ pub fn bad_lists(numbers: &[u32], turnovers: &[u64], randoms: &[u32]) -> bool
     bad_count(turnovers)
 }
 
-// "strictly rising"
+// "strictly rising": likewise a pass with no way out
 pub fn rising(numbers: &[u32]) -> bool
     ensures { λ r. ⌜ r ≡ rising (now (numbers .entry)) ⌝ }
 {
+    let mut rises = true;
     let mut i: usize = 1;
     while i < numbers.len() {
         if numbers[i] <= numbers[i - 1] {
-            return false;
+            rises = false;
         }
         i += 1;
     }
-    true
+    rises
 }
 
 // "a turnover 0, or total over 10^12". The total stops before it would pass the limit, so that no sum wraps.
@@ -69,18 +70,20 @@ pub fn bad_turnovers(turnovers: &[u64]) -> bool
     false
 }
 
-// "random number … over 999,999"
+// "random number … over 999,999": the largest is asked, so that the pass has no way out and takes several numbers at once
 pub fn bad_randoms(randoms: &[u32]) -> bool
     ensures { λ r. ⌜ r ≡ anyOf badRandom (now (randoms .entry)) ⌝ }
 {
+    let mut most: u32 = 0;
     let mut i: usize = 0;
     while i < randoms.len() {
-        if RANDOM_RANGE <= randoms[i] {
-            return true;
+        let random = randoms[i];
+        if most < random {
+            most = random;
         }
         i += 1;
     }
-    false
+    RANDOM_RANGE <= most
 }
 
 // "z is 0, over 100 or over the units"
