@@ -164,8 +164,8 @@ struct vougecress_figure vougecress_quarter(const uint64_t *record, size_t recor
                                             const uint32_t *relatives, size_t relatives_count);
 
 /*
- * The figure F of a year's close. The record's index becomes F, each weight floor(v x p / 100,000), and one close and one link are counted.
- * Refusals 19, 9, 13, 21, 22, 23, 24.
+ * The figure F of a year's close. The record's index becomes F, each weight floor(v x p / 100,000), and one close and one link
+ * are counted. Refusals 19, 9, 13, 21, 22, 23, 24.
  */
 struct vougecress_figure vougecress_close(uint64_t *record, size_t record_count,
                                           const uint32_t *relatives, size_t relatives_count);
@@ -190,10 +190,11 @@ struct vougecress_came vougecress_year(uint64_t *record, size_t record_count,
                                        uint64_t *figures, size_t figures_count);
 
 /*
- * Renews the panel of a chain: opens new weights from a record, with lists as an open has them, of a length of their own. The record's
- * index is the start index, its links go onward, and its closes begin at 0; of its weights nothing goes on. An updating relative leads from the
- * reference year to the renewal, and the relatives of the calls after it are measured against the renewal as against an opening.
- * Writes the first 104 places of `record`. Answers 0, or 19 (the record breaks a limit, or is shorter than 104), 9, 10, 11, 13, 21 or 22.
+ * Renews the panel of a chain: opens new weights from a record, with lists as an open has them, of a length of their own. The
+ * record's index is the start index, its links go onward, and its closes begin at 0; of its weights nothing goes on. An updating
+ * relative leads from the reference year to the renewal, and the relatives of the calls after it are measured against the
+ * renewal as against an opening. Writes the first 104 places of `record`.
+ * Answers 0, or 19 (the record breaks a limit, or is shorter than 104), 9, 10, 11, 13, 21 or 22.
  * Never 24: at forty links a renewal is accepted, and each quarter or close after it is refused by 24.
  */
 uint32_t vougecress_renew(const uint64_t *weights, size_t weights_count,
@@ -202,8 +203,8 @@ uint32_t vougecress_renew(const uint64_t *weights, size_t weights_count,
                           uint64_t *record, size_t record_count);
 
 /*
- * The same with an outside share: the domain share G in ten-thousandths, and for each unit whether it was sampled, 0 for a take-all unit and
- * any other number for a sampled one (the marks of vougecress_take_all say the contrary).
+ * The same with an outside share: the domain share G in ten-thousandths, and for each unit whether it was sampled, 0 for a
+ * take-all unit and any other number for a sampled one (the marks of vougecress_take_all say the contrary).
  * Answers 0, or 19, 9 (also where there is not one mark for each unit), 10, 11, 13, 29, 21 or 22.
  */
 uint32_t vougecress_renew_outside(const uint64_t *weights, size_t weights_count,

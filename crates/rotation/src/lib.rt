@@ -1,6 +1,6 @@
-// Rotation (document 01, "Rotation"; document 02, [1], [2], [8] and [9]), by either key, with or without the take-all lists of previous draws: the smallest step of the start at which enough members leave the panel, and who leaves. The
-// take-all group, the units' gaps and the members do not depend on the step and are found once; what a step does is crate `rotation_step`,
-// who leaves at the step that is found crate `rotation_leavers`.
+// Rotation (document 01, "Rotation"; document 02, [1], [2], [8] and [9]), by either key, with or without the take-all lists of previous draws: the smallest
+// step of the start at which enough members leave the panel, and who leaves. The take-all group, the units' gaps and the members do not depend on the step
+// and are found once; what a step does is crate `rotation_step`, who leaves at the step that is found crate `rotation_leavers`.
 use draw_key::Method;
 use draw_key::Setting;
 use limits::FRACTION_SCALE;
@@ -100,9 +100,10 @@ fn turn(
     }
 }
 
-// Rotation by the keys of a method, with the group that a threshold and the take-all lists of up to two previous draws enlarge (an empty list is no list): the
-// smallest step, the new start, and the count of the leavers, whose unit numbers are written to the front of the buffer, by falling turnover, equal turnovers by lower number; or the first refusal that applies, and then the buffer is as it was. `size` and `rest` are the previous
-// sampled count n' and the previous rest turnover X'; with no births the members are the old panel's alone.
+// Rotation by the keys of a method, with the group that a threshold and the take-all lists of up to two previous draws enlarge (an empty list is no list).
+// Answers the smallest step, the new start and the count of the leavers, whose unit numbers are written to the front of the buffer, by falling turnover,
+// equal turnovers by lower number; or the first refusal that applies, and then the buffer is as it was. `size` and `rest` are the previous sampled count n'
+// and the previous rest turnover X'; with no births the members are the old panel's alone.
 pub fn rotate_kept(
     method: Method,
     numbers: &[u32],
