@@ -7,7 +7,8 @@ cd "$(dirname "$0")" || exit 2
 passed=0
 failed=0
 log=$(mktemp)
-trap 'rm -f "$log"' EXIT
+scratch=
+trap 'rm -rf "$log" ${scratch:+"$scratch"}' EXIT
 
 # part NAME COMMAND..: runs a command whose last line is `N passed, M failed` and adds it up. A command that ends in
 # another way, or that says one thing by its last line and another by its exit status, counts as one failure.
@@ -36,8 +37,22 @@ layout() {
     if rt fmt --check; then echo "1 passed, 0 failed"; else echo "0 passed, 1 failed"; fi
 }
 
+# A check copies some 600 small files to the temporary folder. In memory, where there is room and a program may run, that
+# costs a third of a short check less; a TMPDIR that the caller has set stays.
+in_memory() {
+    [ -z "${TMPDIR:-}" ] || return 1
+    [ "$(df -Pk /dev/shm 2> /dev/null | awk 'NR == 2 { print $4 }')" -ge 2000000 ] 2> /dev/null || return 1
+    scratch=$(mktemp -d /dev/shm/vougecress.XXXXXX 2> /dev/null) || return 1
+    chmod 755 "$scratch"
+    printf '#!/bin/sh\n' > "$scratch/runs" && chmod 755 "$scratch/runs" && "$scratch/runs"
+}
+
 part "layout (rt fmt --check)" layout
-part "proofs (rt ci)" rt ci
+if in_memory; then
+    part "proofs (rt ci)" env TMPDIR="$scratch" rt ci
+else
+    part "proofs (rt ci)" rt ci
+fi
 part "tests against the independent computation" python3 tests/run.py
 echo "$passed passed, $failed failed"
 [ "$failed" -eq 0 ] && [ "$passed" -gt 0 ]

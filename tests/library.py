@@ -101,8 +101,6 @@ ELEMENTS = {"u8s": c_uint8, "u16s": c_uint16, "u32s": c_uint32, "u64s": c_uint64
 
 
 @cache
-
-
 def built():
     """The shared library, built by the README's command, with its functions declared."""
     subprocess.run([str(TOP / "build.sh")], check=True, capture_output=True)

@@ -59,3 +59,14 @@ def test_options(t):
     many = "def test_many(t):\n    for i in range(99):\n        t.check(False, f'number {i}')\n"
     status, lines = runs({"test_a.py": many})
     t.check(lines[-1] == "0 passed, 99 failed" and len(lines) < 40, "a flood is counted, not printed", lines)
+
+
+def test_side_by_side(t):
+    """However many files run at a time, all are counted; a process that ends without an answer is a failure."""
+    files = {"test_a.py": GOOD, "test_b.py": BAD, "test_c.py": GOOD}
+    for jobs in ("1", "2", "9"):
+        status, lines = runs(files, "--jobs", jobs)
+        t.check((status, lines[-1]) == (1, "4 passed, 1 failed"), f"{jobs} at a time", lines)
+        t.check(sum("checks, " in line for line in lines) == 3, "a line for each test", lines)
+    status, lines = runs({"test_a.py": "import os\n\ndef test_gone(t):\n    os._exit(0)\n"}, "--jobs", "2")
+    t.check((status, lines[-1]) == (1, "0 passed, 1 failed"), "a process that is gone", lines)

@@ -7,7 +7,7 @@ import subprocess
 import tempfile
 from pathlib import Path
 
-from proving import TOP, Product, built_archives, can_write, sources
+from proving import TOP, Product, alone, built_archives, can_write, sources
 from system import DONE, NOT_READY, WRONG, Stop, shown
 
 BUILD = TOP / "build"
@@ -87,6 +87,13 @@ def make(say):
     archives = built_archives(say)
     if not can_write():
         raise Stop(NOT_READY, f"{BUILD} is not built from the present sources, and {TOP} cannot be written")
+    with alone(say, "link.lock"):
+        if not whole.is_fresh():
+            lay(say, whole, archives, words, source)
+
+
+def lay(say, whole, archives, words, source):
+    """Lays the library's files into build/."""
     say("linking libvougecress.so")
     BUILD.mkdir(exist_ok=True)
     for old in [*BUILD.glob("libvougecress.*"), whole.stamp]:

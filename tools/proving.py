@@ -7,6 +7,7 @@ import re
 import shutil
 import subprocess
 import sys
+from contextlib import contextmanager
 from pathlib import Path
 
 from system import NOT_READY, Stop
@@ -122,6 +123,19 @@ def built_archives(say):
     return ARCHIVES.files
 
 
+@contextmanager
+def alone(say, name):
+    """What is done under a lock of this name is done once at a time in this repository."""
+    TARGET.mkdir(exist_ok=True)
+    with open(TARGET / name, "w") as lock:
+        try:
+            fcntl.flock(lock, fcntl.LOCK_EX | fcntl.LOCK_NB)
+        except BlockingIOError:
+            say("another build is under way here; waiting for it")
+            fcntl.flock(lock, fcntl.LOCK_EX)
+        yield
+
+
 def build(say, product, crates, commands, time):
     """Runs `rt` with each of these commands, one build at a time in this repository."""
     if not shutil.which("rt"):
@@ -129,13 +143,7 @@ def build(say, product, crates, commands, time):
     if not can_write():
         raise Stop(NOT_READY, f"{crates[0]} is not built from the present sources, and {TOP} cannot be written")
     total = len(crates_below(crates)[0])
-    TARGET.mkdir(exist_ok=True)
-    with open(TARGET / "build.lock", "w") as lock:
-        try:
-            fcntl.flock(lock, fcntl.LOCK_EX | fcntl.LOCK_NB)
-        except BlockingIOError:
-            say("another build is under way here; waiting for it")
-            fcntl.flock(lock, fcntl.LOCK_EX)
+    with alone(say, "build.lock"):
         if product.is_fresh():
             return
         say(f"proving and building {', '.join(crates)} from {total} crates (its parts); the first time some {time} on two cores")

@@ -118,6 +118,9 @@ pub record Exacts : Type 0 where
   unread-allowed : allowed (directOpen (unread 0) start) ≡ 2
   plain-allowed : allowed (directOpen (plain (4000000 ∷ []) (5000 ∷ []) (ones 1)) start) ≡ 2
   forty-allowed : allowed hostileDirect ≡ 42
+  -- with no sampled unit T counts as 1: the exact weights are those of the opening without G; else the scale is 10,000 × T × 100,000
+  unread-exact : panelExact (unread 20000) ≡ panelExact (plain (4000000 ∷ []) (5000 ∷ []) (ones 1))
+  sampled-scale : panelExact beside .scale ≡ shareScale * 10000 * relativeScale
   -- D of the first panel is the mean of prices weighted by 9,000,000, 3,600,000 and 1,800,000
   absent-direct : numerator (directOpen absent start) moving * (14400000 * relativeScale)
       ≡ denominator (directOpen absent start) moving * (start * (9000000 * 100000 + 3600000 * 200000 + 1800000 * 50000))
@@ -133,6 +136,8 @@ exacts =
       unread-allowed = refl;
       plain-allowed = refl;
       forty-allowed = refl;
+      unread-exact = refl;
+      sampled-scale = refl;
       absent-direct = refl;
       hostile-direct = refl;
       hostile-figure = refl;
