@@ -55,7 +55,10 @@ pub record BirthsTable : Type 0 where
   -- r of unit 12 is 1,000 from start 499,000; the old panel is 15
   shifted-joins : rotationAnswer soon 3 499000 (15 ∷ []) 1000 (born 2 19999999999 (12 ∷ [])) room ≡ rotated 2 501000 2
   shifted-stays-out : rotationAnswer soon 3 499000 (15 ∷ []) 1000 (born 2 20000000000 (12 ∷ [])) room ≡ rotated 0 499000 1
-  -- 25 is judged without births, and before 26; 6 counts both lists, before 25
+  -- 25: n' over 100, X' over 10^12 (10^12 itself is fine, above), or X' of 0 while n' is not; it is judged without births
+  over-rest : answerOf 500 (born 1 1000000000001 []) ≡ Judged.refused 25
+  no-rest : answerOf 500 (born 1 0 []) ≡ Judged.refused 25
+  -- … and before 26; 6 counts both lists, before 25
   no-births : answerOf 500 (born 101 1 []) ≡ Judged.refused 25
   nothing-before : answerOf 500 (born 0 5 []) ≡ rotated 1 1000 1
   both : answerOf 500 (born 101 1 (99 ∷ [])) ≡ Judged.refused 25
@@ -81,6 +84,8 @@ births-table =
       take-all-stays-out = refl;
       shifted-joins = refl;
       shifted-stays-out = refl;
+      over-rest = refl;
+      no-rest = refl;
       no-births = refl;
       nothing-before = refl;
       both = refl;
