@@ -1,13 +1,13 @@
 -- `bad_randoms` meets its contract. The invariant: once the largest so far is bad the list is, and until then the places from i on say what the whole list says.
 use Prim.Native.Nat.{ℕ, _+_, _-_, _<_, _≤_}
-use mathlib.Core.Path.{_≡_, refl, sym, _∙_}
+use mathlib.Core.Path.{_≡_, refl, _∙_}
 use mathlib.Core.Bool.{true, false}
 use mathlib.Core.Logic.{⊎-elim}
 use mathlib.Core.List.{List}
 use native.Mathlib.Omega.{arith}
 use lib.ListN.{length, getD, drop}
 use borrow.Author.Needs.{needs}
-use borrow.Author.Tests.{le-leb, lt-leb, leb-true, leb-false}
+use borrow.Author.Tests.{lt-leb, leb-true, leb-false}
 use Rattle.rules.specs.Limits.{randomRange}
 use Rattle.rules.specs.Lists.{anyOf}
 use Rattle.rules.specs.Draw.{badRandom}

@@ -55,5 +55,5 @@ returns c =
 pub rising-spec : {M : Type 1} → statement M
 rising-spec =
     tie.close
-    (tie.spec Inv-loop μ-loop (λ c. (omega arith, and-on true _ refl ∙ rises-start (c .args .numbers .now))) (λ c. search needs) (λ c. omega arith) (λ c. omega arith) (λ c. search needs) (λ c. omega arith)
-    (λ c. omega arith) (λ c. omega arith) loop-again returns)
+    (tie.spec Inv-loop μ-loop (λ c. (omega arith, and-on true _ refl ∙ rises-start (c .args .numbers .now))) (λ c. search needs) (λ c. omega arith)
+    (λ c. omega arith) (λ c. search needs) (λ c. omega arith) (λ c. omega arith) (λ c. omega arith) loop-again returns)
