@@ -37,8 +37,8 @@ layout() {
     if rt fmt --check; then echo "1 passed, 0 failed"; else echo "0 passed, 1 failed"; fi
 }
 
-# A check copies some 600 small files to the temporary folder. In memory, where there is room and a program may run, that
-# costs a third of a short check less; a TMPDIR that the caller has set stays.
+# A check copies some 600 small files to the temporary folder. In memory, where there is room and a program may run, a
+# short check takes up to a third less; a TMPDIR that the caller has set stays.
 in_memory() {
     [ -z "${TMPDIR:-}" ] || return 1
     [ "$(df -Pk /dev/shm 2> /dev/null | awk 'NR == 2 { print $4 }')" -ge 2000000 ] 2> /dev/null || return 1

@@ -119,7 +119,7 @@ def built_archives(say):
         # the crates below go first, by themselves, since `rt check` proves several at a time and `rt staticlib` does not
         crates = exporting()
         _, below = crates_below(crates)
-        build(say, ARCHIVES, crates, [["check", *below], *(["staticlib", name] for name in crates)], "5 minutes")
+        build(say, ARCHIVES, crates, [["check", *below], *(["staticlib", name] for name in crates)], "8 minutes")
     return ARCHIVES.files
 
 

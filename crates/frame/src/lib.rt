@@ -35,7 +35,7 @@ pub fn bad_lists(numbers: &[u32], turnovers: &[u64], randoms: &[u32]) -> bool
     bad_count(turnovers)
 }
 
-// "strictly rising": likewise a pass with no way out
+// "strictly rising": a fall is noted and asked at the end, so that the pass has no way out and takes several numbers at once
 pub fn rising(numbers: &[u32]) -> bool
     ensures { λ r. ⌜ r ≡ rising (now (numbers .entry)) ⌝ }
 {
@@ -70,7 +70,7 @@ pub fn bad_turnovers(turnovers: &[u64]) -> bool
     false
 }
 
-// "random number … over 999,999": the largest is asked, so that the pass has no way out and takes several numbers at once
+// "random number … over 999,999": likewise the largest is asked at the end
 pub fn bad_randoms(randoms: &[u32]) -> bool
     ensures { λ r. ⌜ r ≡ anyOf badRandom (now (randoms .entry)) ⌝ }
 {
