@@ -1,5 +1,6 @@
 // Document 01, "Chain record", and document 02, [11]: what a record holds beside its places, how that comes about, and the limits 19 and 24. Crates above
 // make and judge a record by these functions, so that a further number is a matter of this crate, the definitions and the layout for C.
+#![tactic(auto)]
 ghost use Rattle.std.specs.Prelude.{◌≡◌, length};
 ghost use Rattle.rules.specs.Limits.{most_panel};
 ghost use Rattle.rules.specs.Chain.{bad_links, broken};
@@ -8,7 +9,7 @@ ghost use Rattle.chain_record.specs.Record.{Countable, record_with, numbers_with
 use limits::{MOST_CLOSES, MOST_WEIGHT, bad_index, bad_units};
 
 // A call lends the record's places and passes these by value, so that no call copies a record.
-#[derive(Drop)]
+#[derive(Clone, Copy)]
 pub struct Numbers {
     pub units: usize,
     pub index: u64,

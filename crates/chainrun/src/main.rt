@@ -1,6 +1,7 @@
 // The program `chainrun` (document 01, "Job stream"): reads a stream from standard input and prints the lines of each command as it is done,
 // until the end or the first refusal. What all turns print is the crate `job_turn`, proofs/Whole.antt.
 // A program has no exit status: a read or a write that fails is told on standard error, with the system's reason, and ends the run.
+#![tactic(auto)]
 ghost use Rattle.std.specs.Prelude.{◌≡◌, suc, ◌*◌, length};
 ghost use Rattle.io.specs.Counts.{IsPrefixLen};
 ghost use Rattle.rules.specs.Limits.{most_stream, most_panel};

@@ -1,5 +1,6 @@
 // A bound that parts the units with the smallest keys from the others, and what is asked of one: whether a key is near enough to be looked at, whether
 // a unit is within the bound, and the check of a bound that was searched for.
+#![tactic(auto)]
 ghost use Rattle.std.specs.Prelude.{◌≡◌, true, ◌*◌, ◌≤◌, ◌<◌, length, leb};
 ghost use Rattle.rules.specs.Limits.{most_turnover, random_range, most_panel};
 ghost use Rattle.rules.specs.Draw.{fraction_below};
@@ -11,7 +12,7 @@ use draw_fraction::Fraction;
 use draw_key::Setting;
 
 // Units of a key within reach, by the whole part of key × scale: those below `part`, and of those at `part` the ones up to unit `last`.
-#[derive(Drop)]
+#[derive(Clone, Copy)]
 pub struct Bound {
     pub scale: u64,
     pub part: u64,

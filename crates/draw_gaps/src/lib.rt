@@ -1,6 +1,7 @@
 // The gaps of a frame's units (document 01, "Draw"; document 02, [8]): X − n × turnover, and X by sequential Poisson: the part of a key that no start changes,
 // so that a rotation computes it once. A unit of the take-all group has no key, and the gap 0. That keys over these gaps order the units as the definitions'
 // keys do is shown here once (proofs/Bridge.antt).
+#![tactic(auto)]
 ghost use Rattle.std.specs.Prelude.{◌≤◌, length};
 ghost use Rattle.rules.specs.Limits.{most_turnover, most_panel};
 ghost use Rattle.rules.specs.Lists.{sum};

@@ -1,5 +1,6 @@
 // Random numbers and keys (document 01, "Draw"; 001, formulas 21 and 22; document 02, [8]). A key is a fraction of two 64-bit products, compared
 // exactly by crate `draw_fraction`; what limits of the frame make the products fit is asked for in `requires`.
+#![tactic(auto)]
 ghost use Rattle.std.specs.Prelude.{◌≡◌, ◌-◌, ◌*◌, ◌<◌, ◌≤◌, cond, ltb, length};
 ghost use Rattle.rules.specs.Limits.{most_turnover, random_range, most_panel};
 ghost use Rattle.rules.specs.Draw.{shifted};
@@ -10,14 +11,14 @@ use draw_fraction::Fraction;
 use limits::RANDOM_RANGE;
 
 // Whose key: that of the Pareto draw, or that of sequential Poisson sampling (document 02, [8]).
-#[derive(Drop)]
+#[derive(Clone, Copy)]
 pub enum Method {
     Pareto,
     SequentialPoisson,
 }
 
 // What every key of a draw reads besides its unit: the method, the start s, the number n to sample and the rest turnover X.
-#[derive(Drop)]
+#[derive(Clone, Copy)]
 pub struct Setting {
     pub method: Method,
     pub start: u32,

@@ -2,6 +2,7 @@
 // n are below 1), so those of at most half as much again are put on a short list. Their keys' whole parts at a large scale are single numbers; the
 // z-th smallest of these is a bound. That exactly z units are within the bound, and that units of its own part are parted rightly, is checked; where the
 // check fails nothing is answered, and the caller orders the keys instead.
+#![tactic(auto)]
 ghost use Rattle.std.specs.Prelude.{◌≡◌, true, false, ◌≤◌, ◌<◌, length};
 ghost use Rattle.selection.specs.Marked.{Placed};
 ghost use Rattle.draw_key.specs.Units.{Units};

@@ -1,4 +1,5 @@
 // The search for a bound. What it finds is checked afterwards, so that nothing is promised here.
+#![tactic(auto)]
 
 // How many parts are at most t.
 fn tally(parts: &[u64], t: u64) -> usize {

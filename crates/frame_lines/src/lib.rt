@@ -1,5 +1,6 @@
 // Document 02, [14]: a register of comma lines, imported into a lent list of units or into three lent lists.
 // All lines are judged before the first write. A slice of structs is proved by hand, so `import_units` only calls and stores.
+#![tactic(auto)]
 ghost use Rattle.std.specs.Prelude.{◌≡◌, ◌≤◌, length};
 ghost use Rattle.rules.specs.Refusals.{written};
 ghost use Rattle.rules.specs.Register.{Row as RulesRow, line_at, row_at, imported, import_count, column_of, shorter, room_of, imported_numbers, imported_turnovers, imported_randoms};
@@ -31,7 +32,7 @@ pub enum Line {
 }
 
 // The count of units; 34 with the offset of the first bad line; 35.
-#[derive(Drop)]
+#[derive(Clone, Copy)]
 pub enum Imported {
     Units(usize),
     BadLine(usize),

@@ -1,6 +1,7 @@
 // One step of a rotation (document 01, "Rotation"): the start that it leads to, how many of the members leave there, and the first step at which
 // enough do. A step looks for the last sampled unit under its start and holds each member against it; who they are is listed once, by crate
 // `rotation_leavers`.
+#![tactic(auto)]
 ghost use Rattle.std.specs.Prelude.{◌≡◌, ◌<◌, ◌≤◌};
 ghost use Rattle.rules.specs.Limits.{random_range, steps};
 ghost use Rattle.rotation_step.specs.Leaving.{setting_at, leaving, first_step};

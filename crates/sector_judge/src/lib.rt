@@ -1,4 +1,5 @@
 // Document 02, [10]: refusal 31.
+#![tactic(auto)]
 ghost use Rattle.std.specs.Prelude.{◌≡◌, ltb};
 ghost use Rattle.rules.specs.Limits.{lowest_strength, highest_strength};
 ghost use Rattle.rules.specs.Tests.{outside};
