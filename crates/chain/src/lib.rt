@@ -13,7 +13,7 @@ use limits::MOST_PANEL;
 use refusals::{Refusal, Verdict};
 
 // `weights` has every place of the record; the units' v are the first `units` of them.
-#[derive(Drop)]
+#[derive(Clone, Copy)]
 pub struct Chain {
     pub weights: [u64; MOST_PANEL],
     pub numbers: Numbers,
