@@ -20,7 +20,7 @@ pub struct Chain {
 }
 
 // Which of the two a call is.
-#[derive(Drop)]
+#[derive(Clone, Copy)]
 pub enum Kind {
     Quarter,
     Close,

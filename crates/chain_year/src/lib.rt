@@ -11,7 +11,7 @@ use limits::YEAR_PLACES;
 use refusals::{Refusal, Verdict};
 
 // The refusal that stopped it, if one did, and the calls that were accepted.
-#[derive(Drop)]
+#[derive(Clone, Copy)]
 pub struct Came {
     pub verdict: Verdict,
     pub count: usize,

@@ -12,7 +12,7 @@ use draw_terms::Key;
 use limits::MOST_PANEL;
 
 // The bound, where it is sure; the key of the last sampled unit, where it is not.
-#[derive(Drop)]
+#[derive(Clone, Copy)]
 pub struct Told {
     pub bound: Bound,
     pub sure: bool,

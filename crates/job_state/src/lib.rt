@@ -11,7 +11,7 @@ use limits::{MOST_HELD, MOST_PANEL, SHARE_SCALE};
 use refusals::Refusal;
 
 // The frame so far, the W of the drawn panel with its shares and pending relatives, and the chain if it is open.
-#[derive(Drop)]
+#[derive(Clone, Copy)]
 pub struct Job {
     pub numbers: [u32; MOST_HELD],
     pub turnovers: [u64; MOST_HELD],
@@ -26,7 +26,7 @@ pub struct Job {
 }
 
 // What a command says. The panel's unit numbers and W stand beside it, since an enum holds no array.
-#[derive(Drop)]
+#[derive(Clone, Copy)]
 pub enum Saying {
     Refused(Refusal),
     Nothing,
@@ -36,7 +36,7 @@ pub enum Saying {
 }
 
 // The job that a command leaves, what it says, and the unit numbers of a drawn panel.
-#[derive(Drop)]
+#[derive(Clone, Copy)]
 pub struct Stepped {
     pub job: Job,
     pub says: Saying,

@@ -10,7 +10,7 @@ use draw_key::Permanent;
 use limits::{MOST_FRAME, MOST_PANEL, MOST_TURNOVER, RANDOM_RANGE};
 
 // What the previous draw left to a rotation: its start, its sampled count n' and its rest turnover X'.
-#[derive(Drop)]
+#[derive(Clone, Copy)]
 pub struct Previous {
     pub start: u32,
     pub n: usize,
