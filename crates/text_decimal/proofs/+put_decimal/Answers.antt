@@ -1,0 +1,28 @@
+-- The digits of a tenth and one more: the last digit is laid after those of n / 10.
+use Prim.Native.Nat.{◌<◌, ◌≤◌, ◌^◌}
+use mathlib.Core.Path.{sym, ap}
+use lib.ListN.{length}
+use native.Mathlib.Omega.{arith}
+use borrow.Author.Rules.{rules}
+use Rattle.text_decimal.proofs.Laying.{in_turn, says}
+use Rattle.text_decimal.proofs.Digits.{one_digit, one_more_lem, one_more_length}
+use Rattle.text_decimal.proofs.+put_decimal.Goals as goal
+
+pub put_byte-requires : goal.put_byte-requires
+put_byte-requires t c = omega (arith, ap length (one_digit c.args.n (search rules)))
+
+pub returns-then-n-lt10 : goal.returns-then-n-lt10
+returns-then-n-lt10 t c = says (sym (one_digit c.args.n (search rules))) c.put_byte.ensures
+
+pub put_decimal-last-requires : goal.put_decimal-last-requires
+put_decimal-last-requires t c = (search rules, omega (arith, one_more_length c.args.n (search rules) (search rules)))
+
+pub put_byte-requires-2 : goal.put_byte-requires-2
+put_byte-requires-2 t c = omega (arith, one_more_length c.args.n (search rules) (search rules))
+
+pub returns : goal.returns
+returns t c =
+    let h : 10 ≤ c.args.n = omega arith in
+    let fits : c.args.n < 2 ^ 64 = omega arith in
+    let size = one_more_length c.args.n h fits in
+    says (sym (one_more_lem c.args.n h fits)) (in_turn c.put_decimal-last.ensures c.put_byte-2.ensures (omega arith))
