@@ -8,7 +8,7 @@ ghost use Rattle.rules.specs.Limits.{most_stream, most_panel};
 ghost use Rattle.text_lines.specs.Laid.{line_room};
 
 use job_text::TEXT_ROOM;
-use std::env;
+use std::env::{Env, FillError};
 use std::io;
 use std::io::{Print, Read};
 
@@ -45,6 +45,7 @@ fn read_stream<R: Read>(input: &mut R, bytes: &mut [u8]) -> io::Result<usize>
 // Tells a failure on standard error, without the number that std puts behind the system's reason. Where nobody can be told, nothing is.
 fn tell(rt: &HostRuntime, what: &str, why: io::Error) {
     let Ok(said) = format!(in rt.alloc(); "{why}") else {
+        let _ = eprintln!(rt; "chainrun: cannot {what}: {why}");
         return;
     };
     let reason = match said.as_str().split_once(" (os error ") {
@@ -52,6 +53,12 @@ fn tell(rt: &HostRuntime, what: &str, why: io::Error) {
         None => said.as_str(),
     };
     let _ = eprintln!(rt; "chainrun: cannot {what}: {reason}");
+}
+
+// Whether anything stands behind the program's name.
+fn has_arguments(rt: &HostRuntime) -> bool {
+    let mut start = [0u8; 1];
+    !matches!(rt.arg(1, &mut start), Err(FillError::NotPresent))
 }
 
 // Does the commands of a stream in turn, one write for the text of each.
@@ -74,9 +81,10 @@ fn run_stream(rt: &HostRuntime, stream: &[u8]) -> io::Result<()> {
 }
 
 fn main(rt: HostRuntime) {
-    let Ok(arguments) = env::args(&rt) else { return };
-    if arguments.count() > 1 {
-        let _ = eprintln!(rt; "chainrun: takes no arguments; it reads a stream from standard input");
+    if has_arguments(&rt) {
+        let _ = eprintln!(rt;
+            "chainrun: takes no arguments; it reads a stream from standard input"
+        );
         return;
     }
     let mut bytes = stream_room();
