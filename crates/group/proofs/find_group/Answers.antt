@@ -4,7 +4,6 @@ use mathlib.Core.Bool.{Bool, false, cond}
 use mathlib.Core.List.{List}
 use Prim.Native.Nat.{ℕ, ◌-◌, ◌<◌}
 use lib.ListN.{length}
-use borrow.Author.Rules.{rules}
 use Rattle.rules.specs.Refusals.{written}
 use Rattle.rules.specs.Selection.{every}
 use Rattle.rules.specs.TakeAll.{largest, take_all_group}
@@ -14,8 +13,8 @@ use Rattle.group_least.specs.declared.Size.{Size}
 use Rattle.group_least.specs.Size.{has_least, IsSize}
 use Rattle.group.specs.Group.{no_unit, marks_of, IsGroup}
 use Rattle.group.proofs.Accepted.{mark_at, marks_tell}
-use Rattle.group.proofs.find_group.Statement.{statement}
-use Rattle.group.proofs.find_group.Tie as tie
+use Rattle.group.proofs.find_group.Goals as goal
+
 
 module _ (ts : List ℕ) (z : ℕ) (s : Size) (k : IsSize ts z s) where
   group_is : (i : ℕ) → i < length ts → has_least ts s.least i ≡ (take_all_group ts z).takes_all i
@@ -47,22 +46,11 @@ module _ (ts : List ℕ) (z : ℕ) (s : Size) (k : IsSize ts z s) where
     };
   }
 
-returns : tie.Need-returns
-returns c =
-    let size = c.before.before.before.before.before.before.find-size in
-    let a = c.before.before.before.before.before.before.before.before.before.args in
-    let none = none_are _ _ _ size.ensures c.before.before.before.before.if1.true in
-    let marks = c.before.before.clear.ensures ∙ ap (λ (xs : List ℕ). written 0 xs a.marks.now) none in
-    (found _ _ _ size.ensures _ _ marks, marks)
+pub returns-then-size-eq0 : goal.returns-then-size-eq0
+returns-then-size-eq0 c = let none = none_are _ _ _ c.find_size-size.ensures c.if-size-eq0.true in
+    let marks = c.clear.ensures ∙ ap (λ (xs : List ℕ). written 0 xs c.args.marks.now) none in
+    record { group = found _ _ _ c.find_size-size.ensures _ _ marks; marks_after = marks }
 
-returns_2 : tie.Need-returns-2
-returns_2 c =
-    let size = c.before.before.before.before.before.before.find-size in
-    let a = c.before.before.before.before.before.before.before.before.before.args in
-    let marks = c.before.before.mark.ensures ∙ ap (λ (xs : List ℕ). written 0 xs a.marks.now) (marks_are _ _ _ size.ensures) in
-    (found _ _ _ size.ensures _ _ marks, marks)
-
-pub find-group-spec : {M : Type 1} → statement M
-find-group-spec =
-    tie.close
-    (tie.spec (λ c κs. search rules) (λ c κs. search rules) (λ c κs. search rules) (λ c. search rules) returns (λ c. search rules) returns_2)
+pub returns-else-size-eq0 : goal.returns-else-size-eq0
+returns-else-size-eq0 c = let marks = c.mark.ensures ∙ ap (λ (xs : List ℕ). written 0 xs c.args.marks.now) (marks_are _ _ _ c.find_size-size.ensures) in
+    record { group = found _ _ _ c.find_size-size.ensures _ _ marks; marks_after = marks }
