@@ -1,0 +1,36 @@
+-- The tests in the order of the sequence: each answer rewrites the definition by the tests that were made.
+use mathlib.Core.Path.{◌≡◌}
+use lib.Dec.{ltb}
+use lib.ListN.{length}
+use borrow.Author.Tests.{lt-ltb, le-ltb}
+use Rattle.rules.specs.Refusals.{refuse, ◌then◌}
+use Rattle.rules.specs.TakeAll.{take_all_refusal}
+use Rattle.group_entry.proofs.judge.Goals as goal
+
+-- where 1, 3 and 5 let pass, 6 decides
+-- TODO
+past_three : (c : tie.Else3) →
+    take_all_refusal c.args.turnovers.now c.args.z c.args.marks.now ≡ refuse (ltb (length c.args.marks.now) (length c.args.turnovers.now)) 6
+unfolding take_all_refusal refuse ◌then◌
+past_three c =
+    rw (← c.bad_count.ensures, c.if1.false, ← c.bad_turnovers.ensures, c.if2.false, ← c.bad_size.ensures, c.if3.false)
+
+pub returns-then-bad_count : goal.returns-then-bad_count
+unfolding take_all_refusal refuse ◌then◌
+returns-then-bad_count c = rw (← c.bad_count.ensures, c.if-bad_count.true)
+
+pub returns-then-bad_turnovers : goal.returns-then-bad_turnovers
+unfolding take_all_refusal refuse ◌then◌
+returns-then-bad_turnovers c = rw (← c.bad_count.ensures, c.if-bad_count.false, ← c.bad_turnovers.ensures, c.if-bad_turnovers.true)
+
+pub returns-then-bad_size : goal.returns-then-bad_size
+unfolding take_all_refusal refuse ◌then◌
+returns-then-bad_size c = rw (← c.bad_count.ensures, c.if-bad_count.false, ← c.bad_turnovers.ensures, c.if-bad_turnovers.false, ← c.bad_size.ensures, c.if-bad_size.true)
+
+pub returns-then-marks-turnovers : goal.returns-then-marks-turnovers
+unfolding refuse
+returns-then-marks-turnovers c = rw (past_three c, lt-ltb _ _ c.if-marks-turnovers.true)
+
+pub returns : goal.returns
+unfolding refuse
+returns c = rw (past_three c, le-ltb _ _ c.if-marks-turnovers.false)
