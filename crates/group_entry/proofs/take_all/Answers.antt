@@ -8,18 +8,20 @@ use Rattle.group_entry.proofs.Accepted.{accepted}
 use Rattle.group_entry.proofs.take_all.Goals as goal
 
 -- the verdict is the definition's
--- TODO
-none : (c : tie.After-enum-told) →
-    take_all_refusal c.args.turnovers.now c.args.z c.args.marks-1.now ≡ 0
-none c = sym c.judge-verdict.ensures ∙ ap verdict_of c.enum_told-1.given.1
-
 pub find_group-g-requires : goal.find_group-g-requires
-find_group-g-requires c = let ok = accepted _ _ _ (none c) in (sized _ _ ok.units, ok.room)
+find_group-g-requires c =
+    let none : take_all_refusal c.args.turnovers.now c.args.z c.args.marks.now ≡ 0 = sym c.judge-verdict.ensures ∙ ap verdict_of c.in-Accepted.is in
+    let ok = accepted _ _ _ none in
+    (sized _ _ ok.units, ok.room)
 
 pub returns-in-Refused : goal.returns-in-Refused
 unfolding take_all_answer take_all_marks
-returns-in-Refused c = rw (sym c.judge-verdict.ensures ∙ ap verdict_of c.verdict-1.given.1, number_is_suc c.verdict-1.given.0.0) record { result_value = refl; marks_after = refl }
+returns-in-Refused c =
+    rw (sym c.judge-verdict.ensures ∙ ap verdict_of c.in-Refused.is, number_is_suc c.in-Refused.why) record { result_value = refl; marks_after = refl }
 
 pub returns-in-Accepted : goal.returns-in-Accepted
 unfolding take_all_answer take_all_marks
-returns-in-Accepted c = rw (none c, ← c.find_group-g.ensures.group.size, ← c.find_group-g.ensures.group.agrees.size_is, ← c.find_group-g.ensures.group.agrees.rest_is) record { result_value = refl; marks_after = c.find_group-g.ensures.marks_after }
+returns-in-Accepted c =
+    let none : take_all_refusal c.args.turnovers.now c.args.z c.args.marks.now ≡ 0 = sym c.judge-verdict.ensures ∙ ap verdict_of c.in-Accepted.is in
+    let g = c.find_group-g.ensures.group in
+    rw (none, ← g.size, ← g.agrees.size_is, ← g.agrees.rest_is) record { result_value = refl; marks_after = c.find_group-g.ensures.marks_after }
