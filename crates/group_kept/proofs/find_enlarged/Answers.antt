@@ -1,11 +1,7 @@
 -- `find_enlarged` meets its contract: the base group, its candidates in order, the first of them marked, and what is left of n and X.
-use mathlib.Core.Path.{◌≡◌}
-use mathlib.Core.List.{List}
-use Prim.Native.Nat.{ℕ, ◌≤◌}
+use Prim.Native.Nat.{◌≤◌}
 use native.Mathlib.Omega.{arith}
-use lib.ListN.{length, take}
-use lib.Seq.{length-take-le}
-use Rattle.rules.specs.Kept.{Keeping, keeping}
+use lib.ListN.{length}
 use Rattle.frame.proofs.Accepted.{place_within}
 use Rattle.selection.proofs.TakeAll.{size_le}
 use Rattle.group.proofs.Accepted.{sound}
@@ -13,57 +9,33 @@ use Rattle.group_kept.proofs.Taking.{outside, all_kept, some_left}
 use Rattle.group_kept.proofs.find_enlarged.Goals as goal
 
 -- once the base group is found
--- TODO
-module _ (c : tie.After-find-group) where
-  abbrev start : tie.Start
-  start = c
-
-  abbrev marks : List ℕ
-  marks = c.find_group-g.new.1.1.0
-
-  marks_room : length start.args.turnovers.now ≤ length marks
-  marks_room = omega (arith, c.find_group-g.auto.1.1.0, start.requires)
-
--- and the candidates, of which the first are kept
--- TODO
-module _ (c : tie.After-at-most) where
-  abbrev found : tie.After-find-group
-  found = c
-
-  abbrev entry : tie.Start
-  entry = start found
-
-  abbrev parameters : Keeping
-  parameters = keeping entry.args.threshold entry.args.first.now entry.args.second.now
-
-  abbrev places : List ℕ
-  places = c.candidates-many.new.1.1.1.1.1.1.1.1.0
-
-  fits : c.at_most-kept.result ≤ length places
-  fits = omega (arith, c.at_most-kept.ensures, c.candidates-many.ensures.within)
-
-  few : length (take c.at_most-kept.result places) ≡ c.at_most-kept.result
-  few = length-take-le _ _ fits
-
 pub candidates-many-requires : goal.candidates-many-requires
-candidates-many-requires c = let pre = (start c).requires.0 in
-    let a = (start c).args in
+candidates-many-requires c =
+    let pre = c.requires.0 in
+    let a = c.args in
     let known = sound a.turnovers.now a.z pre.sized.within in
-    record { bordered = (
+    let agrees = c.find_group-g.ensures.group.agrees in
+    let marks_room : length a.turnovers.now ≤ length c.find_group-g.new.marks = omega (arith, c.find_group-g.auto.marks, c.requires.1) in
+    record {
+      bordered = (
         record {
-          room = marks_room c;
+          room = marks_room;
           within = λ i. omega (arith, place_within a.turnovers.now i, pre.sized.total);
-          rest_low = omega (arith, known.rest_low, c.find_group-g.ensures.group.agrees.rest_is, pre.sized.total);
-          size_low = omega (arith, known.parts, c.find_group-g.ensures.group.agrees.size_is, pre.sized.most);
+          rest_low = omega (arith, known.rest_low, agrees.rest_is, pre.sized.total);
+          size_low = omega (arith, known.parts, agrees.size_is, pre.sized.most);
           threshold_low = pre.threshold_low;
         },
         pre.numbered,
-      ); listed = (pre.first_is, pre.second_is, omega arith), }
+      );
+      listed = (pre.first_is, pre.second_is, omega arith);
+    }
 
+-- and the candidates, of which the first are kept
 pub overflow_add-q : goal.overflow_add-q
-overflow_add-q c = let a = (entry c).args in
-    let sized = (entry c).requires.0.sized in
-    let group = (found c).find_group-g.ensures.group in
+overflow_add-q c =
+    let a = c.args in
+    let sized = c.requires.0.sized in
+    let group = c.find_group-g.ensures.group in
     omega (
       arith,
       c.at_most-kept.ensures,
@@ -75,15 +47,15 @@ overflow_add-q c = let a = (entry c).args in
     )
 
 pub returns-then-g-kept : goal.returns-then-g-kept
-returns-then-g-kept c = let f = found c in
-    all_kept _ _ _ _ _ _ (entry c).requires.0.sized.within f.find_group-g.ensures.group _ _ _ c.candidates-many.ensures c.at_most-kept.ensures
+returns-then-g-kept c =
+    all_kept _ _ _ _ _ _ c.requires.0.sized.within c.find_group-g.ensures.group _ _ _ c.candidates-many.ensures c.at_most-kept.ensures
     _ c.mark.ensures c.if-g-kept.true
 
 pub less-rest-requires : goal.less-rest-requires
-less-rest-requires c = let f = found c in
-    outside _ _ _ _ _ _ (entry c).requires.0.sized.within f.find_group-g.ensures.group _ _ _ c.candidates-many.ensures c.at_most-kept.ensures c.if-g-kept.false
+less-rest-requires c =
+    outside _ _ _ _ _ _ c.requires.0.sized.within c.find_group-g.ensures.group _ _ _ c.candidates-many.ensures c.at_most-kept.ensures c.if-g-kept.false
 
 pub returns : goal.returns
-returns c = let f = found c in
-    some_left _ _ _ _ _ _ (entry c).requires.0.sized.within f.find_group-g.ensures.group _ _ _ c.candidates-many.ensures c.at_most-kept.ensures
+returns c =
+    some_left _ _ _ _ _ _ c.requires.0.sized.within c.find_group-g.ensures.group _ _ _ c.candidates-many.ensures c.at_most-kept.ensures
     _ c.mark.ensures c.if-g-kept.false _ c.less-rest.ensures
