@@ -6,8 +6,7 @@ use native.Mathlib.Omega.{arith}
 use borrow.Author.Rules.{rules}
 use Rattle.rules.specs.Draw.{fraction_below}
 use Rattle.draw_fraction.proofs.Cross.{whole_less, whole_more, turned}
-use Rattle.draw_fraction.proofs.below_by_parts.Statement.{statement}
-use Rattle.draw_fraction.proofs.below_by_parts.Tie as tie
+use Rattle.draw_fraction.proofs.below_by_parts.Goals as goal
 
 -- a whole part times its denominator stays within the numerator
 whole_fits : (a b p : ℕ) → p ≡ a / b → p * b ≤ a
@@ -24,17 +23,11 @@ parts_turned :
 parts_turned a b c d p q ep eq le ge =
     rw (whole_leaves a b p ep, whole_leaves c d q eq) (sym (turned a b c d (omega arith)))
 
-pub below-by-parts-spec : {M : Type 1} → statement M
-below-by-parts-spec =
-    tie.close
-    (tie.spec
-    (λ c. sym (whole_less _ _ _ _ (search rules) (search rules) (search rules)))
-    (λ c. sym (whole_more _ _ _ _ (search rules) (search rules) (search rules)))
-    (λ c. omega (arith, whole_fits _ _ _ c.before.before.before.requires.2))
-    (λ c. whole_fits _ _ _ c.before.before.before.before.requires.2)
-    (λ c. omega (arith, whole_fits _ _ _ c.before.before.before.before.before.requires.3))
-    (λ c. whole_fits _ _ _ c.before.before.before.before.before.before.requires.3)
-    (λ c κs. search rules)
-    (λ c.
-    let start = c.before.before.before.before.before.before.before in
-    c.above.ensures ∙ parts_turned _ _ _ _ _ _ start.requires.2 start.requires.3 (search rules) (search rules)))
+pub returns-then-p-q : goal.returns-then-p-q
+returns-then-p-q c = sym (whole_less _ _ _ _ (search rules) (search rules) (search rules))
+
+pub returns-then-q-p : goal.returns-then-q-p
+returns-then-q-p c = sym (whole_more _ _ _ _ (search rules) (search rules) (search rules))
+
+pub returns : goal.returns
+returns c = c.above.ensures ∙ parts_turned _ _ _ _ _ _ c.requires.2 c.requires.3 (search rules) (search rules)
