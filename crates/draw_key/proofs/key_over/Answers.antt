@@ -3,7 +3,7 @@ use Prim.Native.Nat.{ℕ, ◌-◌, ◌*◌}
 use mathlib.Core.Path.{refl, ap}
 use native.Mathlib.Omega.{arith}
 use Rattle.rules.specs.Limits.{random_range}
-use Rattle.draw_key.specs.Methods.{taken_off, denominator_by}
+use Rattle.draw_key.specs.Methods.{denominator_by}
 use Rattle.draw_key.proofs.Keys.{taken_low}
 use Rattle.draw_key.proofs.key_over.Goals as goal
 
