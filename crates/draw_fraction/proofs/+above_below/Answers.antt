@@ -1,7 +1,6 @@
 -- `below` and `above` meet their contracts, each by the other: the guards and the whole parts decide by the laws of `Cross`, and what is
 -- left is the same question about the remainders turned upside down.
 use mathlib.Core.Path.{sym, ◌∙◌}
-use native.Mathlib.Omega.{arith}
 use borrow.Author.Rules.{rules}
 use Rattle.draw_fraction.proofs.Cross.{zero_left, zero_right, whole_less, whole_more, turned}
 use Rattle.draw_fraction.proofs.+above_below.Goals as goal
