@@ -5,7 +5,7 @@ use Rattle.draw_list.specs.Found.{Listed}
 use Rattle.draw_list.proofs.collect.Given as goal
 
 abbrev pub invariant-loop-i : goal.invariant-loop-i
-invariant-loop-i l = Listed l.turnovers l.randoms l.gaps l.s (record { l.units = l.units; l.count = l.count; seen = l.i })
+invariant-loop-i l = Listed l.turnovers l.randoms l.gaps l.s (record { units = l.units; count = l.count; seen = l.i })
 
 abbrev pub decreases-loop-i : goal.decreases-loop-i
 decreases-loop-i l = length l.turnovers - l.i
