@@ -1,7 +1,6 @@
 -- `any_bad_relative`: the test of what is left is the test of the whole, until a unit fails it.
 use native.Mathlib.Omega.{arith}
 use mathlib.Core.Path.{sym, ◌∙◌}
-use Prim.Native.Nat.{◌-◌}
 use Rattle.rules.specs.Chain.{bad_relative}
 use Rattle.rules.proofs.Lists.{pair_found, pair_next, pair_none}
 use Rattle.chain_sums.proofs.any_bad_relative.Goals as goal

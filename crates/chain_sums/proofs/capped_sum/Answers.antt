@@ -1,9 +1,5 @@
 -- `capped_sum`: what is added up and what is left make the whole sum; a sum over the limit is found where it is passed.
 use native.Mathlib.Omega.{arith}
-use mathlib.Core.Path.{◌≡◌}
-use Prim.Native.Nat.{◌+◌, ◌-◌}
-use lib.ListN.{get_or, drop}
-use Rattle.rules.specs.Lists.{sum}
 use Rattle.rules.proofs.Lists.{sum_step, sum_end}
 use Rattle.chain_sums.proofs.capped_sum.Goals as goal
 

@@ -1,8 +1,7 @@
 -- `weighted_sums`: what is added up and what is left make the whole sums, which fit.
 use native.Mathlib.Omega.{arith}
 use mathlib.Core.Path.{◌≡◌, ap₂}
-use Prim.Native.Nat.{ℕ, ◌+◌, ◌*◌, ◌-◌}
-use lib.ListN.{get_or, drop}
+use Prim.Native.Nat.{ℕ}
 use Rattle.rules.specs.Lists.{sum, products}
 use Rattle.rules.proofs.Lists.{sum_step, sum_end, products_step, products_end}
 use Rattle.chain_sums.specs.declared.Sums.{Sums}
