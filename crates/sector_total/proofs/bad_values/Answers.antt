@@ -17,7 +17,6 @@ returns-then-bad_index c = sym (or_second _ _ (sym (one_found bad_index _ c.loop
 pub loop-i-preserved : goal.loop-i-preserved
 loop-i-preserved c = let at-loop = c in
     let l = at-loop.loop-i in
-    let x = c.shared_slice_known-in-loop-i-2-1.given l.i in
     let s = sum_step at-loop.args.shares.now l.i c.loop-i-test.true in
     let e = one_next bad_index _ l.i _ l.invariant.3 (omega arith) (sym c.bad_index.ensures ∙ c.if-bad_index.false) in
     (omega arith, omega arith, omega arith, e)
