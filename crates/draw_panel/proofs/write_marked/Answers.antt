@@ -53,7 +53,10 @@ pub overflow_add-k : goal.overflow_add-k
 overflow_add-k c = omega (arith, room c, (start (turn c)).good)
 
 pub loop-i-preserved : goal.loop-i-preserved
-loop-i-preserved c = elim c.if-marks-i-ne0.branch [ then-marks-i-ne0 w ↦ let room = places c w.if-marks-i-ne0.true in (
-      omega (arith, c.loop-i-test.true),
-      writing_same w.3 w.4 w.5 (writing_more c.loop-i.invariant.1 (ap not (ne_eqb _ _ w.if-marks-i-ne0.true)) room.0 room.1 refl w.2.ensures),
-    ) | else-marks-i-ne0 w ↦ (omega (arith, c.loop-i-test.true), writing_same w.1 w.2 w.3 (writing_not c.loop-i.invariant.1 (ap not (eq-eqb _ _ w.if-marks-i-ne0.false)))) ]
+loop-i-preserved c = elim c.if-marks-i-ne0.branch [
+  | then-marks-i-ne0 w ↦ let room = places c w.if-marks-i-ne0.true in (
+    omega (arith, c.loop-i-test.true),
+    writing_same w.3 w.4 w.5 (writing_more c.loop-i.invariant.1 (ap not (ne_eqb _ _ w.if-marks-i-ne0.true)) room.0 room.1 refl w.2.ensures),
+  )
+  | else-marks-i-ne0 w ↦ (omega (arith, c.loop-i-test.true), writing_same w.1 w.2 w.3 (writing_not c.loop-i.invariant.1 (ap not (eq-eqb _ _ w.if-marks-i-ne0.false))))
+]
