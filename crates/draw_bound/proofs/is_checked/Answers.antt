@@ -17,12 +17,12 @@ loop-j-preserved c =
       omega arith,
       elim c.if-is_passed.branch [ then-is_passed w ↦ omega (arith, w.many-is, at.invariant.1) | else-is_passed w ↦ omega (arith, w.many-is, at.invariant.1) ],
       elim c.if-is_passed.branch [
-        then-is_passed w ↦ w.many-is ∙ ap (λ (n : ℕ). n + 1) at.invariant.2 ∙ sym (count_yes _ at.j (sym passed ∙ w.if-is_passed.true))
+        | then-is_passed w ↦ w.many-is ∙ ap (λ (n : ℕ). n + 1) at.invariant.2 ∙ sym (count_yes _ at.j (sym passed ∙ w.if-is_passed.true))
         | else-is_passed w ↦ w.many-is ∙ at.invariant.2 ∙ sym (count_not _ at.j (sym passed ∙ w.if-is_passed.false))
       ],
       below_more _ at.j at.invariant.3
           (elim c.if-parts-j.branch [
-            then-parts-j+else-not-is_apart w ↦ λ e. w.is_apart.ensures w.if-not-is_apart.false
+            | then-parts-j+else-not-is_apart w ↦ λ e. w.is_apart.ensures w.if-not-is_apart.false
             | else-parts-j w ↦ λ e. absurd (w.if-parts-j.false e)
           ]),
     )

@@ -19,14 +19,14 @@ loop-i-preserved c =
     let at = c.loop-i in
     let test = near_is c.unit_key-key.ensures c.reach_of-reach.ensures ∙ sym c.is_near.ensures in
     elim c.if-is_near.branch [
-      then-is_near+else-count-ge-ROOM w ↦
-        let room : at.count < length at.units = omega (arith, w.if-count-ge-ROOM.false, at.invariant.room) in
-        record {
-          room = ap length w.units-is ∙ simp length-set at.invariant.room;
-          few = omega (arith, w.if-count-ge-ROOM.false, w.count-is);
-          within_frame = omega (arith, c.loop-i-test.true);
-          holds = held_same w.units-is w.count-is (held_more (test ∙ w.if-is_near.true) room at.invariant.holds);
-        }
+      | then-is_near+else-count-ge-ROOM w ↦
+          let room : at.count < length at.units = omega (arith, w.if-count-ge-ROOM.false, at.invariant.room) in
+          record {
+            room = ap length w.units-is ∙ simp length-set at.invariant.room;
+            few = omega (arith, w.if-count-ge-ROOM.false, w.count-is);
+            within_frame = omega (arith, c.loop-i-test.true);
+            holds = held_same w.units-is w.count-is (held_more (test ∙ w.if-is_near.true) room at.invariant.holds);
+          }
       | else-is_near w ↦ record {
         room = ap length w.units-is ∙ at.invariant.room;
         few = omega (arith, w.count-is, at.invariant.few);

@@ -1,5 +1,4 @@
 -- One pass; nothing is promised of what it says.
-use Prim.Native.Nat.{◌-◌}
 use Rattle.draw_bound.proofs.Terms.{reach_low}
 use Rattle.draw_list.proofs.is_worth.Goals as goal
 

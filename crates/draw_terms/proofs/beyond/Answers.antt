@@ -1,5 +1,4 @@
 -- The product by whole + 1 stays within 18 × 10^18; a numerator that reaches it has a whole part of at least whole + 1.
-use mathlib.Core.Bool.{false}
 use native.Mathlib.Nat.{pos_of_ne-zero}
 use native.Mathlib.Omega.{arith}
 use Rattle.draw_terms.proofs.Terms.{product_low}
