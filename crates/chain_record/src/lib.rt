@@ -1,6 +1,7 @@
 // Document 01, "Chain record", and document 02, [11]: what a record holds beside its places, how that comes about, and the limits 19 and 24. Crates above
 // make and judge a record by these functions, so that a further number is a matter of this crate, the definitions and the layout for C.
 #![tactic(auto)]
+
 ghost use Rattle.std.specs.Prelude.{◌≡◌, length};
 ghost use Rattle.rules.specs.Limits.{most_panel};
 ghost use Rattle.rules.specs.Chain.{bad_links, broken};

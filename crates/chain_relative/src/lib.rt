@@ -1,5 +1,6 @@
 // Document 01, "Chain record", and document 02, [5]: a relative is in hundred-thousandths, "and the range belongs to the relative itself".
 #![tactic(auto)]
+
 ghost use Rattle.std.specs.Prelude.{◌≡◌};
 ghost use Rattle.chain_relative.specs.Checked.{answer_from, checked_answer};
 

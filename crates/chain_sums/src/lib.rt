@@ -1,6 +1,7 @@
 // Document 01, "Chain record" and its refusals: one pass each over the weights and relatives of all units. Open, quarter and close
 // are made of these and of the tests of one unit (crate `chain_weight`).
 #![tactic(auto)]
+
 ghost use Rattle.std.specs.Prelude.{◌≡◌, ◌+◌, ◌<◌, ◌≤◌, ◌^◌, min, length};
 ghost use Rattle.refusals.specs.Number.{verdict_of};
 ghost use Rattle.rules.specs.Limits.{most_weight};

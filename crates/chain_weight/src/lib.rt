@@ -1,6 +1,7 @@
 // Document 01, "Chain record" and its refusals: tests of one unit, of which the passes over all units are made (crate `chain_sums`).
 // A mark is 0 for an absent unit: its share at the open, its weight later.
 #![tactic(auto)]
+
 ghost use Rattle.std.specs.Prelude.{◌≡◌};
 ghost use Rattle.rules.specs.Chain.{bad_relative, bad_weight};
 

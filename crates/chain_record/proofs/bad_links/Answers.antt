@@ -1,0 +1,12 @@
+-- `bad_links`: forty closes need no test of their own.
+use mathlib.Core.Path.{sym, ◌∙◌}
+use borrow.Author.Tests.{lt-ltb, le-ltb}
+use Rattle.rules.proofs.Tests.{or_on, or_off}
+use Rattle.rules.proofs.Chains.{closes_follow}
+use Rattle.chain_record.proofs.bad_links.Goals as goal
+
+pub returns-then-links-gt-MOST_CLOSES : goal.returns-then-links-gt-MOST_CLOSES
+returns-then-links-gt-MOST_CLOSES c = sym (closes_follow _ _ ∙ or_on _ _ (lt-ltb _ _ c.if-links-gt-MOST_CLOSES.true))
+
+pub returns : goal.returns
+returns c = sym (closes_follow _ _ ∙ or_off _ _ (le-ltb _ _ c.if-links-gt-MOST_CLOSES.false))
