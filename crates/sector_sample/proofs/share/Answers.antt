@@ -3,12 +3,10 @@ use mathlib.Core.Path.{◌≡◌, refl, sym, ◌∙◌}
 use mathlib.Core.Bool.{true, false}
 use mathlib.Core.List.{List}
 use Prim.Native.Nat.{ℕ}
-use borrow.Author.Rules.{rules}
 use Rattle.rules.specs.Refusals.{refuse}
 use Rattle.rules.specs.Allocation.{Sharing, no_places, count_list, whole_list, remainder_list, bad_sharing, sample_refusal, sample_counts, sample_wholes, sample_remainders}
 use Rattle.sector_quota.proofs.Accepted.{accepted}
-use Rattle.sector_sample.proofs.share.Statement.{statement}
-use Rattle.sector_sample.proofs.share.Tie as tie
+use Rattle.sector_sample.proofs.share.Goals as goal
 
 -- the answer's number and lists, as the contract has them
 abbrev Answers : Sharing → ℕ → List ℕ → List ℕ → List ℕ → Type 0
@@ -22,19 +20,17 @@ given : (a : Sharing) (cs ws rs : List ℕ) → bad_sharing a ≡ false → cs �
 unfolding sample_refusal sample_counts sample_wholes sample_remainders refuse
 given a cs ws rs good c w r = rw good (refl, (c, (w, r)))
 
-returns : tie.Need-returns
+pub returns-then-bad_sharing : goal.returns-then-bad_sharing
+returns-then-bad_sharing c =
+    let bad = sym c.bad_sharing.ensures ∙ c.if-bad_sharing.true in
+    let all = refused _ _ _ _ bad c.blank.ensures c.blank-then-bad_sharing.ensures c.blank-then-bad_sharing-2.ensures in
+    record { verdict_value = all.0; counts_value = all.1.0; wholes_value = all.1.1.0; remainders_value = all.1.1.1 }
+
+pub allot-requires : goal.allot-requires
+allot-requires c = accepted _ (sym c.bad_sharing.ensures ∙ c.if-bad_sharing.false)
+
+pub returns : goal.returns
 returns c =
-    let bad = sym c.before.before.before.before.bad-sharing.ensures ∙ c.before.before.before.if1.true in
-    refused _ _ _ _ bad c.before.before.blank.ensures c.before.blank2.ensures c.blank3.ensures
-
-returns_2 : tie.Need-returns-2
-returns_2 c =
-    let good = sym c.before.before.bad-sharing.ensures ∙ c.before.if1.false in
-    let lists = c.allot.ensures in
-    given _ _ _ _ good lists.0 lists.1.0 lists.1.1
-
-pub share-spec : {M : Type 1} → statement M
-share-spec =
-    tie.close
-    (tie.spec (λ c κs. search rules) (λ c κs. search rules) (λ c κs. search rules) (λ c κs. search rules) returns
-    (λ c κs. accepted _ (sym c.before.bad-sharing.ensures ∙ c.if1.false)) returns_2)
+    let good = sym c.bad_sharing.ensures ∙ c.if-bad_sharing.false in
+    let all = given _ _ _ _ good c.allot.ensures.counts_value c.allot.ensures.wholes_value c.allot.ensures.remainders_value in
+    record { verdict_value = all.0; counts_value = all.1.0; wholes_value = all.1.1.0; remainders_value = all.1.1.1 }
