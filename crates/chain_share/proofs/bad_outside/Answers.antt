@@ -1,7 +1,7 @@
 -- `bad_outside` gives 29's test: nothing is asked where no unit is sampled, else each of its parts in turn.
 use native.Mathlib.Omega.{arith}
 use mathlib.Core.Path.{◌≡◌, refl, sym, ap, ◌∙◌}
-use mathlib.Core.Bool.{Bool, false, not}
+use mathlib.Core.Bool.{Bool, not}
 use mathlib.Core.List.{List}
 use Prim.Native.Nat.{ℕ, zero, suc}
 use lib.Dec.{ltb, eqb}
@@ -53,11 +53,11 @@ returns-then-domain-gt-SHARE_SCALE c = rw (tested c.args.domain c.args.marks.now
 pub returns-then-sampled-eq0-2 : goal.returns-then-sampled-eq0-2
 unfolding ◌or◌
 returns-then-sampled-eq0-2 c = rw (
-      tested c.args.domain c.args.marks.now c.args.w.now c.args.g.now c.requires _ c.count-sampled.ensures c.if-sampled-eq0.false,
-      ne_eqb _ 0 c.if-domain-eq0.false,
-      le-ltb _ _ c.if-domain-gt-SHARE_SCALE.false,
-      eq-eqb _ 0 (sym (shares_at c.args.domain c.args.marks.now c.args.w.now c.args.g.now c.requires _ c.count-sampled.ensures) ∙ c.if-sampled-eq0-2.true),
-    )
+  tested c.args.domain c.args.marks.now c.args.w.now c.args.g.now c.requires _ c.count-sampled.ensures c.if-sampled-eq0.false,
+  ne_eqb _ 0 c.if-domain-eq0.false,
+  le-ltb _ _ c.if-domain-gt-SHARE_SCALE.false,
+  eq-eqb _ 0 (sym (shares_at c.args.domain c.args.marks.now c.args.w.now c.args.g.now c.requires _ c.count-sampled.ensures) ∙ c.if-sampled-eq0-2.true),
+)
 
 pub first-x-requires : goal.first-x-requires
 first-x-requires c = c.requires.marks
@@ -68,9 +68,9 @@ any_other-requires c = c.requires.marks
 pub returns : goal.returns
 unfolding ◌or◌
 returns c = rw (
-      tested c.args.domain c.args.marks.now c.args.w.now c.args.g.now c.requires _ c.count-sampled.ensures c.if-sampled-eq0.false,
-      ne_eqb _ 0 c.if-domain-eq0.false,
-      le-ltb _ _ c.if-domain-gt-SHARE_SCALE.false,
-      ne_eqb _ 0 (λ e. c.if-sampled-eq0-2.false (shares_at c.args.domain c.args.marks.now c.args.w.now c.args.g.now c.requires _ c.count-sampled.ensures ∙ e)),
-    )
+  tested c.args.domain c.args.marks.now c.args.w.now c.args.g.now c.requires _ c.count-sampled.ensures c.if-sampled-eq0.false,
+  ne_eqb _ 0 c.if-domain-eq0.false,
+  le-ltb _ _ c.if-domain-gt-SHARE_SCALE.false,
+  ne_eqb _ 0 (λ e. c.if-sampled-eq0-2.false (shares_at c.args.domain c.args.marks.now c.args.w.now c.args.g.now c.requires _ c.count-sampled.ensures ∙ e)),
+)
     (c.any_other.ensures ∙ ap (λ (x : ℕ). any_of (λ w. not (eqb w x)) (of_sampled c.args.marks.now c.args.w.now)) c.first-x.ensures)
