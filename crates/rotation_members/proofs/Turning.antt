@@ -23,7 +23,7 @@ abbrev pub Who : List ℕ → List ℕ → List ℕ → List ℕ → List ℕ �
 Who ns ts rs marks panel p births = member (frame ns ts rs) (marked marks) p.start panel (born p.n p.rest births)
 
 -- where a turn stands: old panel and births passed as far as the frame, no more listed than places passed, and the list filled with the members so far
-pub pub record At (ns ts rs marks panel : List ℕ) (p : Previous) (births before after : List ℕ) (count j b i : ℕ) : Type 0 where
+pub record At (ns ts rs marks panel : List ℕ) (p : Previous) (births before after : List ℕ) (count j b i : ℕ) : Type 0 where
   pub in_panel : Standing ns panel i j
   pub in_births : Standing ns births i b
   pub fewer : count ≤ j + b

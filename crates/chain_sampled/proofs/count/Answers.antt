@@ -1,7 +1,6 @@
 -- `count`: what was counted and what is left make n and T; a list has few units, so that neither passes 64 bits.
 use native.Mathlib.Omega.{arith}
 use mathlib.Core.Path.{◌≡◌, ap, ap₂}
-use mathlib.Core.Logic.{⊎_elim}
 use mathlib.Core.List.{List}
 use Prim.Native.Nat.{ℕ, ◌+◌, ◌-◌, ◌<◌, ◌≤◌}
 use lib.ListN.{length, get_or}
@@ -10,13 +9,14 @@ use Rattle.rules.specs.Lists.{sum}
 use Rattle.rules.specs.Panel.{sampled_size, sampled_shares}
 use Rattle.chain_sampled.specs.declared.Tally.{Tally}
 use Rattle.chain_sampled.proofs.Turns.{left, passed, took, ended}
+use Rattle.chain_sampled.proofs.count.Invariants.{Counted}
 use Rattle.chain_sampled.proofs.count.Goals as goal
+use Rattle.chain_sampled.proofs.count.Goals.{then-marks-i-ne0, else-marks-i-ne0}
 
 none_counted : (ms gs : List ℕ) → Counted ms gs 0 0 0
 unfolding sampled_size sampled_shares
 none_counted ms gs = record { some = omega arith; few = omega arith; sizes = omega arith; totals = omega arith }
 
--- TODO
 module _ (ms gs : List ℕ) (i size shares : ℕ) (before : Counted ms gs i size shares) (h : i < length ms) (k : i < length gs) where
   pass_counted : get_or ms i 0 ≡ 0 → Counted ms gs (i + 1) size shares
   pass_counted e =
@@ -42,29 +42,22 @@ module _ (ms gs : List ℕ) (i size shares : ℕ) (before : Counted ms gs i size
 abbrev tally_from : ℕ → ℕ → Tally
 tally_from size shares = record { size = size; shares = shares }
 
--- TODO
-shares_small : (s : tie.After-shared-slice-known2 invariant-loop decreases-loop) → get_or s.args.g.now s.loop-i.i 0 ≤ most_short
-shares_small s = omega (arith, s.shared-slice-known2.given s.loop-i.i)
-
 pub loop-i-init : goal.loop-i-init
 loop-i-init c = (omega arith, none_counted _ _)
 
 pub overflow_add-size : goal.overflow_add-size
 overflow_add-size c = omega (arith, c.loop-i.invariant.1.some)
 
-pub overflow_cast-shares : goal.overflow_cast-shares
-overflow_cast-shares c = omega (arith, shares_small c)
-
 pub overflow_add-shares : goal.overflow_add-shares
-overflow_add-shares c = omega (arith, shares_small c, c.loop-i.invariant.1.few)
+overflow_add-shares c = omega (arith, c.type_inv.g c.loop-i.i, c.loop-i.invariant.1.few)
 
 pub loop-i-preserved : goal.loop-i-preserved
 loop-i-preserved c = let k : c.loop-i.i < length c.args.g.now = omega (arith, c.requires.0) in (
       omega arith,
-      ⊎_elim
-          (λ w. rw (w.2, w.3) (take_counted _ _ _ _ _ c.loop-i.invariant.1 c.loop-i-test.true k w.0.taken (omega (arith, w.1.given c.loop-i.i))))
-          (λ w. rw (w.1, w.2) (pass_counted _ _ _ _ _ c.loop-i.invariant.1 c.loop-i-test.true k w.0.left))
-          c.if-marks-i-ne0.branch,
+      elim c.if-marks-i-ne0.branch [
+        then-marks-i-ne0 w ↦ rw (w.size-is, w.shares-is) (take_counted _ _ _ _ _ c.loop-i.invariant.1 c.loop-i-test.true k w.if-marks-i-ne0.true (omega (arith, c.type_inv.g c.loop-i.i)))
+      | else-marks-i-ne0 w ↦ rw (w.size-is, w.shares-is) (pass_counted _ _ _ _ _ c.loop-i.invariant.1 c.loop-i-test.true k w.if-marks-i-ne0.false)
+      ],
     )
 
 pub returns : goal.returns

@@ -1,15 +1,11 @@
 -- `first`: the first sampled unit from place i on is the first of all.
 use native.Mathlib.Omega.{arith}
 use mathlib.Core.Path.{refl, sym, ap, ◌∙◌}
-use mathlib.Core.List.{List}
-use Prim.Native.Nat.{ℕ, ◌-◌}
-use lib.ListN.{get_or}
+use Prim.Native.Nat.{◌-◌}
 use Rattle.rules.specs.Panel.{sampled_base}
 use Rattle.chain_sampled.proofs.Turns.{passed, took, ended}
+use Rattle.chain_sampled.proofs.first.Invariants.{first_of}
 use Rattle.chain_sampled.proofs.first.Goals as goal
-
-abbrev first_of : List ℕ → ℕ
-first_of xs = get_or xs 0 0
 
 pub loop-i-init : goal.loop-i-init
 unfolding sampled_base

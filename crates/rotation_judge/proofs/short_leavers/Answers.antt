@@ -4,12 +4,10 @@ use mathlib.Core.Bool.{true}
 use Prim.Native.Nat.{ℕ, ◌+◌, ◌-◌, ◌≤◌, ◌<◌}
 use native.Mathlib.Omega.{arith}
 use lib.Dec.{ltb}
-use borrow.Author.Rules.{rules}
 use borrow.Author.Tests.{lt-ltb, le-ltb}
 use Rattle.rules.specs.Rotation.{short_leavers}
 use Rattle.rules.proofs.Tests.{by_order}
-use Rattle.rotation_judge.proofs.short_leavers.Statement.{statement}
-use Rattle.rotation_judge.proofs.short_leavers.Tie as tie
+use Rattle.rotation_judge.proofs.short_leavers.Goals as goal
 
 -- b − p is below n exactly where b is below p + n
 left_over : (b p n : ℕ) → p ≤ b → ltb (b - p) n ≡ ltb b (p + n)
@@ -21,13 +19,10 @@ left_over b p n h =
 short_of_one : (b p n : ℕ) → b < p → ltb b (p + n) ≡ true
 short_of_one b p n h = lt-ltb b (p + n) (omega arith)
 
-returns : tie.Need-returns
+pub returns-then-leavers-panel : goal.returns-then-leavers-panel
 unfolding short_leavers
-returns c = sym (short_of_one _ _ _ c.if1.true)
+returns-then-leavers-panel c = sym (short_of_one _ _ _ c.if-leavers-panel.true)
 
-returns_2 : tie.Need-returns-2
+pub returns : goal.returns
 unfolding short_leavers
-returns_2 c = left_over _ _ _ c.if1.false
-
-pub short-leavers-spec : {M : Type 1} → statement M
-short-leavers-spec = tie.close (tie.spec returns (λ c. search rules) returns_2)
+returns c = left_over _ _ _ c.if-leavers-panel.false
