@@ -1,6 +1,7 @@
 // The draw (document 01, "Frame and weights" and "Draw"; 001, section 2.3 and formulas 21 and 22; document 02, [8] and [9]): a panel of z units of a frame,
 // under a start, by Pareto keys or by sequential Poisson keys, with or without the take-all lists of previous draws.
 #![tactic(auto)]
+
 ghost use Rattle.std.specs.Prelude.{◌≡◌, ◌≤◌, length};
 ghost use Rattle.rules.specs.TakeAll.{frame};
 ghost use Rattle.rules.specs.Kept.{keeping, enlarged_group};

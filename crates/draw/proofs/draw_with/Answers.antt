@@ -1,0 +1,90 @@
+-- The facts of an accepted frame feed each step; what is written, from the short list or in order, is then the definition's.
+use mathlib.Core.Path.{ap, ◌∙◌}
+use mathlib.Core.List.{List}
+use Prim.Native.Nat.{ℕ, ◌≤◌}
+use native.Mathlib.Omega.{arith}
+use lib.ListN.{length}
+use Rattle.rules.specs.Refusals.{written}
+use Rattle.rules.specs.TakeAll.{Frame}
+use Rattle.rules.specs.Kept.{Keeping, keeping, enlarged_group}
+use Rattle.group.specs.declared.Group.{Group}
+use Rattle.group_kept.specs.Kept.{IsEnlarged}
+use Rattle.group_kept.proofs.Enlarged.{enlarged_sound}
+use Rattle.draw_key.specs.declared.Method.{Method}
+use Rattle.draw_gaps.specs.Gaps.{Gaps}
+use Rattle.draw.proofs.Accepted.{KeptAccepted, kept_accepted}
+use Rattle.draw.proofs.Panel as panels
+use Rattle.draw.proofs.draw_with.Goals as goal
+
+-- once the group, the definition's enlarged one, is found and the gaps are written
+drawing :
+    {m : Method} {f : Frame} {z start : ℕ} {p : Keeping} {panel weights marks gs : List ℕ} {g : Group} → KeptAccepted f z start p panel weights
+    → IsEnlarged f.numbers f.turnovers z p marks g → Gaps f.turnovers marks m g.n g.rest gs
+    → panels.Drawing m f z start (enlarged_group f.numbers f.turnovers z p) marks gs g
+drawing {p = p} ok is filled = record {
+  none = ok.drawn.none;
+  ok = ok.drawn.frame_ok;
+  sound_is = enlarged_sound _ _ _ ok.drawn.frame_ok.units.size_within p;
+  mark_is = is.mark_is;
+  agrees = is.agrees;
+  filled = filled;
+}
+
+pub find_enlarged-g-requires : goal.find_enlarged-g-requires
+find_enlarged-g-requires c = ((kept_accepted _ _ _ _ _ _ c.requires.weights_value).ready, c.requires.turnovers_in_bounds.1)
+
+pub fill-requires-clause-turnovers_bound : goal.fill-requires-clause-turnovers_bound
+fill-requires-clause-turnovers_bound c =
+    let k = (kept_accepted _ _ _ _ _ _ c.requires.weights_value).drawn.frame_ok.units in
+    let parts = (enlarged_sound c.args.numbers.now c.args.turnovers.now c.args.z k.size_within (keeping c.args.threshold c.args.first.now c.args.second.now)).parts in
+    (k.total, omega (arith, c.find_enlarged-g.ensures.agrees.size_is, parts, k.size_few))
+
+pub find-found-requires : goal.find-found-requires
+find-found-requires c = panels.units_here (drawing (kept_accepted _ _ _ _ _ _ c.requires.weights_value) c.find_enlarged-g.ensures c.fill.ensures)
+
+pub write_found-requires : goal.write_found-requires
+write_found-requires c =
+    let all = kept_accepted _ _ _ _ _ _ c.requires.weights_value in
+    let d = drawing all c.find_enlarged-g.ensures c.fill.ensures in
+    let marks_room : length c.args.turnovers.now ≤ length c.find_enlarged-g.new.marks =
+    omega (arith, c.find_enlarged-g.auto.marks, c.requires.turnovers_in_bounds.1) in
+    let w = c.find-found.ensures c.if-found.true in
+    let size = panels.found_size d _ w in
+    record {
+      weighable = (panels.weighable d marks_room, all.drawn.frame_ok.numbers_length, panels.found_here d _ w);
+      count_in_bounds = (omega (arith, size, all.drawn.numbers_room), omega (arith, size, all.drawn.weights_room));
+    }
+
+pub returns-then-found-clause-panel_after : goal.returns-then-found-clause-panel_after
+returns-then-found-clause-panel_after c =
+    let d = drawing (kept_accepted _ _ _ _ _ _ c.requires.weights_value) c.find_enlarged-g.ensures c.fill.ensures in
+    c.write_found.ensures.panel_after
+    ∙ ap (λ (xs : List ℕ). written 0 xs c.args.panel.now) (panels.found_numbers d _ (c.find-found.ensures c.if-found.true))
+
+pub returns-then-found-clause-weights_after : goal.returns-then-found-clause-weights_after
+returns-then-found-clause-weights_after c =
+    let d = drawing (kept_accepted _ _ _ _ _ _ c.requires.weights_value) c.find_enlarged-g.ensures c.fill.ensures in
+    c.write_found.ensures.weights_after
+    ∙ ap (λ (xs : List ℕ). written 0 xs c.args.weights.now) (panels.found_weights d _ (c.find-found.ensures c.if-found.true))
+
+pub write_ordered-requires : goal.write_ordered-requires
+write_ordered-requires c =
+    let all = kept_accepted _ _ _ _ _ _ c.requires.weights_value in
+    let d = drawing all c.find_enlarged-g.ensures c.fill.ensures in
+    let marks_room : length c.args.turnovers.now ≤ length c.find_enlarged-g.new.marks =
+    omega (arith, c.find_enlarged-g.auto.marks, c.requires.turnovers_in_bounds.1) in
+    let size = panels.drawn_size d in
+    record {
+      units = (panels.units_here d, panels.weighable d marks_room, panels.markable d);
+      numbers_len = (all.drawn.frame_ok.numbers_length, omega (arith, size, all.drawn.numbers_room), omega (arith, size, all.drawn.weights_room));
+    }
+
+pub returns-clause-panel_after : goal.returns-clause-panel_after
+returns-clause-panel_after c =
+    let d = drawing (kept_accepted _ _ _ _ _ _ c.requires.weights_value) c.find_enlarged-g.ensures c.fill.ensures in
+    c.write_ordered.ensures.panel_after ∙ ap (λ (xs : List ℕ). written 0 xs c.args.panel.now) (panels.drawn_numbers d)
+
+pub returns-clause-weights_after : goal.returns-clause-weights_after
+returns-clause-weights_after c =
+    let d = drawing (kept_accepted _ _ _ _ _ _ c.requires.weights_value) c.find_enlarged-g.ensures c.fill.ensures in
+    c.write_ordered.ensures.weights_after ∙ ap (λ (xs : List ℕ). written 0 xs c.args.weights.now) (panels.drawn_weights_lem d)

@@ -1,0 +1,61 @@
+-- `list` meets its contract: the list is filled with those of the first j members that are not sampled.
+use mathlib.Core.Path.{◌≡◌, refl, sym, ap, ◌∙◌}
+use mathlib.Core.Bool.{not}
+use Prim.Native.Nat.{◌<◌}
+use native.Mathlib.Omega.{arith}
+use lib.ListN.{length}
+use Rattle.rotation_members.proofs.Filling.{fill_none, fill_not, fill_more, fill_same, fill_few, fill_length}
+use Rattle.rotation_step.specs.Leaving.{member_leaves}
+use Rattle.rotation_leavers.proofs.list.Goals.{then-not-is_sampled, else-not-is_sampled}
+use Rattle.rotation_leavers.proofs.list.Goals as goal
+
+pub tell-told-requires : goal.tell-told-requires
+tell-told-requires c = (c.requires.0.units, c.requires.0.sized)
+
+pub loop-j-init : goal.loop-j-init
+loop-j-init c = (omega arith, fill_none)
+
+pub is_sampled-requires : goal.is_sampled-requires
+is_sampled-requires c = (c.requires.0.units, c.tell-told.ensures, c.requires.0.low c.loop-j.j c.loop-j-test.true)
+
+pub offset_bounds-places-count : goal.offset_bounds-places-count
+offset_bounds-places-count c =
+    let few = fill_few c.loop-j.invariant.1 in
+    let room : c.loop-j.count < length c.args.places.now = omega (arith, few, c.requires.1, c.loop-j-test.true) in
+    omega (arith, room, c.well_formed)
+
+pub bounds-places-count : goal.bounds-places-count
+bounds-places-count c =
+    let few = fill_few c.loop-j.invariant.1 in
+    let room : c.loop-j.count < length c.args.places.now = omega (arith, few, c.requires.1, c.loop-j-test.true) in
+    omega (arith, room, fill_length c.loop-j.invariant.1 (omega arith))
+
+pub overflow_add-count : goal.overflow_add-count
+overflow_add-count c =
+    let few = fill_few c.loop-j.invariant.1 in
+    let room : c.loop-j.count < length c.args.places.now = omega (arith, few, c.requires.1, c.loop-j-test.true) in
+    omega (arith, room, c.well_formed)
+
+pub loop-j-preserved : goal.loop-j-preserved
+unfolding member_leaves
+loop-j-preserved c =
+    let at = c.loop-j in
+    let here = ap not (sym c.is_sampled.ensures) in
+    let few = fill_few at.invariant.1 in
+    let room : at.count < length c.args.places.now = omega (arith, few, c.requires.1, c.loop-j-test.true) in
+    elim c.if-not-is_sampled.branch [
+      then-not-is_sampled w ↦ (
+        omega arith,
+        fill_same w.places-is w.count-is (fill_more at.invariant.1 _ (here ∙ ap not w.if-not-is_sampled.true) refl room),
+      )
+      | else-not-is_sampled w ↦ (
+        omega arith,
+        fill_same w.places-is w.count-is (fill_not at.invariant.1 (here ∙ ap not w.if-not-is_sampled.false)),
+      )
+    ]
+
+pub returns : goal.returns
+returns c =
+    let at = c.loop-j in
+    let all : at.j ≡ length c.args.members.now = omega arith in
+    rw all at at.invariant.1
