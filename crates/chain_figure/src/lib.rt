@@ -1,6 +1,7 @@
 // Document 01, "Chain record": what quarter and close share, the refusals that come first and last, and the figure. The record's places are lent,
 // so that no call copies them.
 #![tactic(auto)]
+
 ghost use Rattle.std.specs.Prelude.{◌≡◌, ◌*◌, ◌/◌, ◌<◌, ◌≤◌, length, take};
 ghost use Rattle.refusals.specs.Number.{verdict_of};
 ghost use Rattle.rules.specs.Limits.{most_panel, most_weight, highest_relative, link_scale};

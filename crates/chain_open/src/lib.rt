@@ -1,6 +1,7 @@
 // Document 01, "Chain record": the opening of a chain record from base weights W, shares g, updating relatives a and a start index; and document 02's [7],
 // the opening that also brings an outside share.
 #![tactic(auto)]
+
 ghost use Rattle.std.specs.Prelude.{◌≡◌, ◌≤◌, length};
 ghost use Rattle.rules.specs.Limits.{most_panel};
 ghost use Rattle.rules.specs.Chain.{open_answer};

@@ -1,5 +1,6 @@
 // Document 02, [7]: what the sampled units of a panel have, n, X and T, one pass each. A mark of 0 is a take-all unit, any other a sampled one.
 #![tactic(auto)]
+
 ghost use Rattle.std.specs.Prelude.{◌≡◌, ◌≤◌, not, eqb, length};
 ghost use Rattle.rules.specs.Limits.{most_panel};
 ghost use Rattle.rules.specs.Lists.{any_of};

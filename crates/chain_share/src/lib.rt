@@ -1,6 +1,7 @@
 // Document 02, [7]: an opening with an outside share G. What is refused of its input, 9 to 13 and 29, and its u, in which no product is made before 29 has
 // judged G.
 #![tactic(auto)]
+
 ghost use Rattle.std.specs.Prelude.{◌≡◌, ◌*◌, ◌/◌, ◌<◌, ◌^◌};
 ghost use Rattle.refusals.specs.Number.{verdict_of};
 ghost use Rattle.rules.specs.Limits.{share_scale};

@@ -1,6 +1,5 @@
 -- `judge_close` hands the units' places on, each part as long as there are units; 21 or 22 stands, and with neither what follows decides.
-use mathlib.Core.Path.{sym, ap, ◌∙◌}
-use Rattle.refusals.specs.Number.{verdict_of}
+use mathlib.Core.Path.{sym}
 use Rattle.rules.proofs.Refusals.{then_goes}
 use Rattle.refusals.proofs.Answers.{stops_by_lem}
 use Rattle.chain_figure.proofs.judge_close.Goals as goal

@@ -6,7 +6,6 @@ use mathlib.Core.List.{List}
 use Prim.Native.Nat.{ℕ, ◌≤◌}
 use lib.ListN.{length, take}
 use lib.Seq.{length-take-le}
-use Rattle.refusals.specs.Number.{verdict_of}
 use Rattle.refusals.proofs.Answers.{refused_by}
 use Rattle.rules.specs.Refusals.{Judged, refuse, ◌then◌}
 use Rattle.rules.specs.Chain.{Chain, held, bad_index, spent, call_input_refusal, figure_at, figure_of, figure_refusal}

@@ -2,7 +2,6 @@
 use native.Mathlib.Omega.{arith}
 use mathlib.Core.Path.{refl, sym, ap, ◌∙◌}
 use mathlib.Core.Bool.{not}
-use Prim.Native.Nat.{◌-◌}
 use borrow.Author.Tests.{eq-eqb, ne_eqb}
 use Rattle.rules.specs.Lists.{any_of}
 use Rattle.rules.proofs.Tests.{or_on, or_off}
@@ -22,12 +21,12 @@ returns-then-w-i c = let e = took c.args.marks.now c.args.w.now c.loop-i.i c.loo
 pub loop-i-preserved : goal.loop-i-preserved
 unfolding any_of
 loop-i-preserved c = (
-      omega arith,
-      elim c.if-sampled-ne0.branch [
-        then-sampled-ne0+else-w-i w ↦ sym (or_off _ _ (ap not (eq-eqb _ _ w.if-w-i.false))) ∙ sym (ap (any_of (other _)) (took _ _ c.loop-i.i c.loop-i-test.true (omega (arith, c.requires)) w.if-sampled-ne0.true)) ∙ c.loop-i.invariant.1
-      | else-sampled-ne0 w ↦ sym (ap (any_of (other _)) (passed _ _ c.loop-i.i c.loop-i-test.true (omega (arith, c.requires)) w.if-sampled-ne0.false)) ∙ c.loop-i.invariant.1
-      ],
-    )
+  omega arith,
+  elim c.if-sampled-ne0.branch [
+    | then-sampled-ne0+else-w-i w ↦ sym (or_off _ _ (ap not (eq-eqb _ _ w.if-w-i.false))) ∙ sym (ap (any_of (other _)) (took _ _ c.loop-i.i c.loop-i-test.true (omega (arith, c.requires)) w.if-sampled-ne0.true)) ∙ c.loop-i.invariant.1
+    | else-sampled-ne0 w ↦ sym (ap (any_of (other _)) (passed _ _ c.loop-i.i c.loop-i-test.true (omega (arith, c.requires)) w.if-sampled-ne0.false)) ∙ c.loop-i.invariant.1
+  ],
+)
 
 pub returns : goal.returns
 unfolding any_of

@@ -2,13 +2,13 @@
 use native.Mathlib.Omega.{arith}
 use mathlib.Core.Path.{◌≡◌, ap, ap₂}
 use mathlib.Core.List.{List}
-use Prim.Native.Nat.{ℕ, ◌+◌, ◌-◌, ◌<◌, ◌≤◌}
+use Prim.Native.Nat.{ℕ, ◌+◌, ◌<◌, ◌≤◌}
 use lib.ListN.{length, get_or}
 use Rattle.rules.specs.Limits.{most_short}
 use Rattle.rules.specs.Lists.{sum}
 use Rattle.rules.specs.Panel.{sampled_size, sampled_shares}
 use Rattle.chain_sampled.specs.declared.Tally.{Tally}
-use Rattle.chain_sampled.proofs.Turns.{left, passed, took, ended}
+use Rattle.chain_sampled.proofs.Turns.{passed, took, ended}
 use Rattle.chain_sampled.proofs.count.Invariants.{Counted}
 use Rattle.chain_sampled.proofs.count.Goals as goal
 use Rattle.chain_sampled.proofs.count.Goals.{then-marks-i-ne0, else-marks-i-ne0}
@@ -53,12 +53,12 @@ overflow_add-shares c = omega (arith, c.type_inv.g c.loop-i.i, c.loop-i.invarian
 
 pub loop-i-preserved : goal.loop-i-preserved
 loop-i-preserved c = let k : c.loop-i.i < length c.args.g.now = omega (arith, c.requires.0) in (
-      omega arith,
-      elim c.if-marks-i-ne0.branch [
-        then-marks-i-ne0 w ↦ rw (w.size-is, w.shares-is) (take_counted _ _ _ _ _ c.loop-i.invariant.1 c.loop-i-test.true k w.if-marks-i-ne0.true (omega (arith, c.type_inv.g c.loop-i.i)))
-      | else-marks-i-ne0 w ↦ rw (w.size-is, w.shares-is) (pass_counted _ _ _ _ _ c.loop-i.invariant.1 c.loop-i-test.true k w.if-marks-i-ne0.false)
-      ],
-    )
+  omega arith,
+  elim c.if-marks-i-ne0.branch [
+    | then-marks-i-ne0 w ↦ rw (w.size-is, w.shares-is) (take_counted _ _ _ _ _ c.loop-i.invariant.1 c.loop-i-test.true k w.if-marks-i-ne0.true (omega (arith, c.type_inv.g c.loop-i.i)))
+    | else-marks-i-ne0 w ↦ rw (w.size-is, w.shares-is) (pass_counted _ _ _ _ _ c.loop-i.invariant.1 c.loop-i-test.true k w.if-marks-i-ne0.false)
+  ],
+)
 
 pub returns : goal.returns
 unfolding sum

@@ -1,7 +1,6 @@
 -- `first`: the first sampled unit from place i on is the first of all.
 use native.Mathlib.Omega.{arith}
 use mathlib.Core.Path.{refl, sym, ap, ◌∙◌}
-use Prim.Native.Nat.{◌-◌}
 use Rattle.rules.specs.Panel.{sampled_base}
 use Rattle.chain_sampled.proofs.Turns.{passed, took, ended}
 use Rattle.chain_sampled.proofs.first.Invariants.{first_of}

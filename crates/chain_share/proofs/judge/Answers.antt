@@ -1,0 +1,52 @@
+-- `judge` gives 9 for marks of another length, then 9 to 13, then 29.
+use mathlib.Core.Path.{◌≡◌, sym, ◌∙◌}
+use mathlib.Core.List.{List}
+use Prim.Native.Nat.{ℕ}
+use lib.ListN.{length}
+use borrow.Author.Tests.{eq-eqb, ne_eqb}
+use Rattle.refusals.specs.Number.{number_of}
+use Rattle.refusals.specs.declared.Refusal.{Refusal}
+use Rattle.refusals.proofs.Answers.{stops_by_lem}
+use Rattle.rules.specs.Refusals.{refuse, ◌then◌}
+use Rattle.rules.specs.Chain.{open_input_refusal}
+use Rattle.rules.specs.Panel.{bad_outside, outside_input_refusal}
+use Rattle.rules.proofs.Chains.{openable}
+use Rattle.chain_share.specs.Outsideable.{Marked}
+use Rattle.chain_share.proofs.judge.Goals as goal
+
+-- with marks of the right length 9 to 13 and 29 decide
+marked : (domain : ℕ) (ms ws gs rs : List ℕ) (start : ℕ) → length ms ≡ length ws →
+    outside_input_refusal domain ms ws gs rs start ≡ (open_input_refusal ws gs rs start then refuse (bad_outside domain ms ws gs) 29)
+unfolding outside_input_refusal refuse ◌then◌
+marked domain ms ws gs rs start e = rw (eq-eqb _ _ e)
+
+refused : (domain : ℕ) (ms ws gs rs : List ℕ) (start : ℕ) (why : Refusal) → length ms ≡ length ws → number_of why ≡ open_input_refusal ws gs rs start →
+    number_of why ≡ outside_input_refusal domain ms ws gs rs start
+refused domain ms ws gs rs start why e n = stops_by_lem why _ _ n ∙ sym (marked domain ms ws gs rs start e)
+
+-- 9 to 13 passed
+module _ (domain : ℕ) (ms ws gs rs : List ℕ) (start : ℕ) (long : length ms ≡ length ws) (passed : open_input_refusal ws gs rs start ≡ 0) where
+  marked_at : Marked ms ws gs
+  marked_at = let o = (openable ws gs rs start passed).lists in record { marks = long; shares = o.shares; most = o.most }
+
+  last : outside_input_refusal domain ms ws gs rs start ≡ refuse (bad_outside domain ms ws gs) 29
+  unfolding ◌then◌
+  last = marked domain ms ws gs rs start long ∙ rw passed
+
+pub returns-then-marks-w : goal.returns-then-marks-w
+unfolding outside_input_refusal refuse ◌then◌
+returns-then-marks-w c = rw (ne_eqb _ _ c.if-marks-w.true)
+
+pub bad_outside-requires : goal.bad_outside-requires
+bad_outside-requires c = marked_at c.args.domain c.args.marks.now c.args.w.now c.args.g.now c.args.a.now c.args.start c.if-marks-w.false (sym c.in-Accepted.ensures)
+
+pub returns-then-bad_outside : goal.returns-then-bad_outside
+unfolding refuse
+returns-then-bad_outside c = rw (last c.args.domain c.args.marks.now c.args.w.now c.args.g.now c.args.a.now c.args.start c.if-marks-w.false (sym c.in-Accepted.ensures), sym c.bad_outside.ensures ∙ c.if-bad_outside.true)
+
+pub returns-in-Refused : goal.returns-in-Refused
+returns-in-Refused c = refused c.args.domain _ _ c.args.g.now c.args.a.now c.args.start c.in-Refused.why c.if-marks-w.false c.in-Refused.ensures
+
+pub returns-else-bad_outside : goal.returns-else-bad_outside
+unfolding refuse
+returns-else-bad_outside c = rw (last c.args.domain c.args.marks.now c.args.w.now c.args.g.now c.args.a.now c.args.start c.if-marks-w.false (sym c.in-Accepted.ensures), sym c.bad_outside.ensures ∙ c.if-bad_outside.false)
