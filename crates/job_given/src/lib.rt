@@ -1,6 +1,7 @@
 // Document 01, "Job stream": the commands that give a value, a unit of the frame, a share and a relative of the panel; refusals 18 and 20.
 // Whoever uses the value judges it.
 #![tactic(auto)]
+
 ghost use Rattle.rules.specs.Stream.{Command};
 ghost use Rattle.job_state.specs.Steps.{Steps};
 

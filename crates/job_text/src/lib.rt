@@ -1,5 +1,6 @@
 // Document 01, "Job stream": the text of what a command says, and whether the stream goes on after it.
 #![tactic(auto)]
+
 ghost use Rattle.std.specs.Prelude.{◌≡◌, length};
 ghost use Rattle.rules.specs.Refusals.{written};
 ghost use Rattle.job_state.specs.State.{saying_from};
