@@ -11,23 +11,22 @@ TOP = Path(__file__).resolve().parent.parent
 CHAINRUN = TOP / "target" / "bin" / "chainrun"
 SYSTEM_TOOLS = ("sh", "dirname", "readlink", "env", "cp", "mkdir", "cat", "printf")
 PARTS = ("run.sh", "build.sh", "install.sh", "crates.txt", "tools", "examples", "include")
-FEW_CRATES = ("refusals", "chainrun", "vougecress")
-EXPORTING = tuple(path.name for path in sorted((TOP / "crates").glob("c_*")))  # with c_values, which exports nothing
+FEW_CRATES = ("refusals", "chainrun", "vougecress_c")
 
 # Says what rt says and leaves what rt leaves. RT_CALLS gets the words of each call, RT_FAILS makes one fail.
 STAND_IN = """#!/bin/sh
 echo "$@" >> "$RT_CALLS"
-[ -z "$RT_FAILS" ] || { echo "rt: rules proved (1 s)"; echo "rt: refusals NOT PROVED (exit 1, 2 s)"; echo "rt: FAILED: refusals"; exit 1; }
+[ -z "$RT_FAILS" ] || { echo "crate rules: modules loaded=0 checked=87"; echo "fn refusals::Refusal::number: not proved"; echo "logic=not-proved"; exit 1; }
+echo "library std: modules loaded=0"
+for name in rules refusals rules; do echo "crate $name: modules loaded=0 checked=9"; done
+mkdir -p out
 case $1 in
-check)
-    echo "library std: modules loaded=0"
-    for name in rules refusals rules; do echo "rt: $name proved (unchanged since it was last proved)"; done
-    for last; do :; done
-    echo "rt: $last proved (17 s)"
-    mkdir -p target/bin && cp "$RT_PROGRAM" target/bin/chainrun ;;
-staticlib)
-    mkdir -p target/staticlib && cp "$RT_ARCHIVES/lib$2.a" target/staticlib/
-    echo "rt: target/staticlib/lib$2.a has the functions of $2" ;;
+run)
+    echo "crate chainrun: modules loaded=0 checked=9"
+    cp "$RT_PROGRAM" out/chainrun ;;
+lib)
+    echo "crate vougecress_c: modules loaded=0 checked=9"
+    cp "$RT_ARCHIVES/libvougecress_c.a" out/ ;;
 esac
 """
 
@@ -73,8 +72,8 @@ class Copy:
                 shutil.copytree(source, self.top / name, ignore=shutil.ignore_patterns("__pycache__"))
             else:
                 shutil.copy(source, self.top / name)
-        for crate in (*FEW_CRATES, *EXPORTING):
-            shutil.copytree(TOP / "crates" / crate, self.top / "crates" / crate)
+        for crate in FEW_CRATES:
+            shutil.copytree(TOP / "crates" / crate, self.top / "crates" / crate, ignore=shutil.ignore_patterns("out"))
         self.path = links(Path(folder) / "path", programs)
         self.calls = Path(folder) / "calls"
         self.calls.touch()

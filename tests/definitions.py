@@ -49,16 +49,12 @@ HIDDEN = {"Limits"}
 def header(found):
     lines = [
         "-- Made by tests/definitions.py: cases of the independent computation.",
-        "use mathlib.Core.Path.{_≡_, refl}",
-        "use Prim.Native.Nat.{ℕ, zero, suc, _*_}",
-        "use mathlib.Core.List.{List, [], _∷_, _++_}",
-        "use lib.ListN.{replicate}",
-        "use lib.IntN.{ℤ, pos, negsuc}",
+        "use Rattle.std.specs.Prelude.{◌≡◌, refl, ℕ, zero, suc, ◌*◌, List, [], ◌∷◌, ◌++◌, replicate, ℤ, pos, negsuc}",
     ]
     seen = set()  # a record's name may stand in two modules; no case names one
     for module, (names, _) in found.items():
         if module not in HIDDEN:
-            lines.append(f"use Rattle·rules.specs.{module}.{{{', '.join(name for name in names if name not in seen)}}}")
+            lines.append(f"use Rattle.rules.specs.{module}.{{{', '.join(name for name in names if name not in seen)}}}")
             seen.update(names)
     lines += [
         "",
@@ -92,22 +88,22 @@ def refused_cases(cases):
     """
     folder = tempfile.mkdtemp(prefix="definitions-")
     try:
-        shutil.copytree(RULES, os.path.join(folder, "crates", "rules"))
+        shutil.copytree(RULES, os.path.join(folder, "crates", "rules"), ignore=shutil.ignore_patterns("out", "must-fail"))
         crate = os.path.join(folder, "crates", "cases")
         os.makedirs(os.path.join(crate, "src"))
         os.makedirs(os.path.join(crate, "specs"))
         texts = {
             os.path.join(folder, "crates.txt"): "rules:\ncases: rules\n",
-            os.path.join(crate, "src", "lib.rt"): "// Cases of the definitions.\n",
+            os.path.join(crate, "src", "lib.rt"): "// Cases of the definitions.\n#![tactic(auto)]\n",
             os.path.join(crate, "specs", "Lib.antt"): "pub mod Cases\n",
             os.path.join(crate, "specs", "Cases.antt"): source(cases),
         }
         for path, text in texts.items():
             with open(path, "w", encoding="utf-8") as f:
                 f.write(text)
-        run = subprocess.run(["rt", "check", "cases"], cwd=folder, capture_output=True, text=True)
+        run = subprocess.run(["rt", "check"], cwd=crate, capture_output=True, text=True)
         said = run.stdout + run.stderr
-        if run.returncode == 0 and "rt: ok" in said:
+        if run.returncode == 0 and "logic=proved" in said:
             return [], said
         numbers = sorted({int(n) for n in re.findall(r"`case-(\d+)`", said)})
         return (numbers or None), said

@@ -66,8 +66,7 @@ def mutants(names):
 
 
 def table_holds(rules):
-    folder = os.path.dirname(os.path.dirname(rules))
-    run = subprocess.run(["rt", "check", "rules"], cwd=folder, capture_output=True, text=True)
+    run = subprocess.run(["rt", "check"], cwd=rules, capture_output=True, text=True)
     return run.returncode == 0
 
 
@@ -76,7 +75,7 @@ def caught_by(file, text, cases):
     folder = tempfile.mkdtemp(prefix="mutant-")
     try:
         rules = os.path.join(folder, "crates", "rules")
-        shutil.copytree(definitions.RULES, rules)
+        shutil.copytree(definitions.RULES, rules, ignore=shutil.ignore_patterns("out", "must-fail"))
         with open(os.path.join(folder, "crates.txt"), "w", encoding="utf-8") as f:
             f.write("rules:\n")
         with open(os.path.join(rules, "specs", file), "w", encoding="utf-8") as f:

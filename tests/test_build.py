@@ -81,12 +81,12 @@ def test_a_proof_that_fails(t):
     with tempfile.TemporaryDirectory() as folder:
         copy = Copy(folder)
         status, printed, said = copy.run("run.sh", RT_FAILS="1")
-        t.check((status, printed) == (4, b"") and "refusals NOT PROVED" in said, "a first proof", (status, printed, said))
+        t.check((status, printed) == (4, b"") and "refusals::Refusal::number: not proved" in said, "a first proof", (status, printed, said))
         copy.run("run.sh")
         (copy.top / "crates" / "refusals" / "src" / "new.rt").write_text("")
         status, printed, said = copy.run("run.sh", RT_FAILS="1")
         t.check(
-            (status, printed) == (4, b"") and "`rt check chainrun` failed (status 1)" in said,
+            (status, printed) == (4, b"") and "`rt run` in crates/chainrun failed (status 1)" in said,
             "a later one",
             (status, printed, said),
         )
@@ -100,7 +100,7 @@ def test_without_rt(t):
         copy = Copy(folder, rt=False)
         status, printed, said = copy.run("run.sh")
         t.check((status, printed) == (4, b"") and said.count("\n") == 1, "status 4 and one line", (status, said))
-        words = ("no `rt` in PATH", "rattle-kit-5b-plain", "once built, nothing else of the repository does")
+        words = ("no `rt` in PATH", "rattle-kit-13f", "once built, nothing else of the repository does")
         t.check(all(word in said for word in words), "what, which version, and what for", said)
         status, _, said = copy.run("build.sh")
         t.check(status == 4 and "no `rt` in PATH" in said and said.count("\n") == 1, "build.sh too", (status, said))

@@ -24,8 +24,8 @@ def printed(octets):
 
 def built(t):
     """Proves and builds the program if the gate has not done so yet."""
-    run = subprocess.run(["rt", "check", "chainrun"], cwd=TOP, capture_output=True, text=True)
-    t.check(run.returncode == 0 and CHAINRUN.exists(), "chainrun is proved and built", repeat=run.stdout[-2000:])
+    run = subprocess.run([str(TOP / "run.sh")], capture_output=True, text=True)
+    t.check(run.returncode == 0 and CHAINRUN.exists(), "chainrun is proved and built", repeat=run.stderr[-2000:])
     return run.returncode == 0
 
 

@@ -199,7 +199,7 @@ def exact_cases(exact, state, closes, p):
     state = f"(direct_after ({state}) (Call.quarter {number_list(p)}))"
     D = exact.D(p)
     yield f"numerator {state} {number_list(p)} * {D.denominator}", f"{D.numerator} * denominator {state} {number_list(p)}"
-    yield f"{state} .m", str(exact.m)
+    yield f"({state}).m", str(exact.m)
     yield f"allowed {state}", str(exact.allowed())
 
 
@@ -260,11 +260,11 @@ def front_text(told):
 def reading_cases(part):
     told, rest = stream.read_command(bytes(part))
     yield f"reading {number_list(part)}", judged(told, front_text)
-    yield f"restOf {number_list(part)}", number_list(rest)
+    yield f"rest_of {number_list(part)}", number_list(rest)
 
 
 def word_cases(part):
-    yield f"wordOf {number_list(part)}", judged(stream.front_word(bytes(part)), str)
+    yield f"word_of {number_list(part)}", judged(stream.front_word(bytes(part)), str)
 
 
 def load_cases(start, count, *rooms):
@@ -333,7 +333,7 @@ def row_cases(row):
     command, _ = stream.read_command(writing.octets_of(row))
     text = "(row " + " ".join(map(str, row)) + ")"
     yield f"command_in {text}", command_text(command)
-    yield f"rowOf {command_text(command)}", "row " + " ".join(map(str, writing.row_of(command)))
+    yield f"row_of {command_text(command)}", "row " + " ".join(map(str, writing.row_of(command)))
 
 
 def output_cases(octets):
@@ -639,7 +639,7 @@ def load_suite(rng, count):
     for lengths in ((1, 2, 2), (2, 1, 2), (2, 2, 1), (2, 2, 2), (3, 2, 2)):
         yield from load_cases(5, 2, *([9] * length for length in lengths))
     yield from load_cases(5, 0, [], [], [])
-    yield "made_frame 0 2 .numbers", number_list([1, 2])
+    yield "(made_frame 0 2).numbers", number_list([1, 2])
     long = [0] * 16_385
     yield f"load_refusal 5 16384 {number_list(long)} {number_list(long)} {number_list(long)}", "0"
     yield f"load_refusal 5 16385 {number_list(long)} {number_list(long)} {number_list(long)}", "33"
@@ -818,7 +818,7 @@ def full_frame_cases():
         _, told = stream.step(job, ("unit", 1, 1, 1))
         lists = f"(frame (replicate {held} 0) (replicate {held} 0) (replicate {held} 0))"
         state = f"(record {{ units = {lists}; panel = []; shares = []; pending = []; chain = OpenChain.none }})"
-        yield f"(step {state} (Command.unit 1 1 1)) .says", judged(told, lambda _: "Saying.nothing")
+        yield f"(step {state} (Command.unit 1 1 1)).says", judged(told, lambda _: "Saying.nothing")
 
 
 def order_suite(rng, times):

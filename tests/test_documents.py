@@ -6,7 +6,7 @@ import tempfile
 from pathlib import Path
 
 ROOT = Path(__file__).resolve().parent.parent
-CRATES = [line.split(":")[0] for line in (ROOT / "crates.txt").read_text().splitlines() if ":" in line]
+CRATES = [line.split(":")[0].split()[0] for line in (ROOT / "crates.txt").read_text().splitlines() if ":" in line]
 DOCUMENTS = [ROOT / "README.md", *sorted((ROOT / "docs").glob("*.md"))]
 ITEM = r"^\s*(?:pub )?(?:extern \"C\" )?(?:fn|struct|enum|const|mod) {}\b"
 LAW = r"^\s*(?:abbrev |unfoldable |pub |data |record )*{}\s*(?:$|[:(])"
@@ -91,19 +91,20 @@ def test_counts(t):
             t.check(int(count) == len(CRATES), f"{document.name}: {count} crates, there are {len(CRATES)}")
 
 
-def printed_by_rt(*words):
+def printed_by_rt(*words, folder=ROOT):
     """What `rt` prints, of both kinds."""
-    return subprocess.run(["rt", *words], stdout=subprocess.PIPE, stderr=subprocess.STDOUT, text=True, check=True).stdout
+    return subprocess.run(["rt", *words], cwd=folder, stdout=subprocess.PIPE, stderr=subprocess.STDOUT, text=True, check=True).stdout
 
 
 def sum_of_a_check():
     """The logic's sum that the check of a small crate says at its end."""
     with tempfile.TemporaryDirectory() as folder:
-        crate = Path(folder) / "small"
+        crate = Path(folder) / "crates" / "small"
         (crate / "src").mkdir(parents=True)
-        (crate / "src" / "lib.rt").write_text("pub fn one() -> u32 { 1 }\n")
-        last = printed_by_rt("check", str(crate)).splitlines()[-1]
-    return re.fullmatch(r"logic=proved .*\bsum=(\w+)\b.*", last)[1]
+        (crate / "src" / "lib.rt").write_text("#![tactic(auto)]\n\npub fn one() -> u32 {\n    1\n}\n")
+        (Path(folder) / "crates.txt").write_text("small:\n")
+        said = printed_by_rt("check", folder=crate)
+    return re.search(r"^logic=proved .*\bsum=(\w+)\b", said, re.MULTILINE)[1]
 
 
 def test_toolchain(t):

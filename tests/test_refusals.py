@@ -40,7 +40,7 @@ def test_words_of_the_definitions(t):
     text = next(path.read_text() for path in TOP.glob("crates/*/specs/*.antt") if "\nnumberOf FrameLists = 1\n" in path.read_text())
     for number, (name, words) in REFUSALS.items():
         comment = re.search(rf"-- (.*)\nnumberOf {name} = {number}\n", text)
-        t.check(comment is not None, f"numberOf {name} is {number}")
+        t.check(comment is not None, f"number_of {name} is {number}")
         quoted = comment[1].split('"')[1].replace("likewise", "at open or after close")
         t.check(words.startswith(quoted), f"the words of {number}", (quoted, words))
 

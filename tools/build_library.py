@@ -4,10 +4,9 @@ import os
 import re
 import shutil
 import subprocess
-import tempfile
 from pathlib import Path
 
-from proving import TOP, Product, alone, built_archives, can_write, sources
+from proving import TOP, Product, alone, built_archive, can_write, sources
 from system import DONE, NOT_READY, WRONG, Stop, shown
 
 BUILD = TOP / "build"
@@ -84,22 +83,22 @@ def make(say):
     if whole.is_fresh():
         return
     words, source = compiler(), whole.source()
-    archives = built_archives(say)
+    archive = built_archive(say)
     if not can_write():
         raise Stop(NOT_READY, f"{BUILD} is not built from the present sources, and {TOP} cannot be written")
     with alone(say, "link.lock"):
         if not whole.is_fresh():
-            lay(say, whole, archives, words, source)
+            lay(say, whole, archive, words, source)
 
 
-def lay(say, whole, archives, words, source):
+def lay(say, whole, archive, words, source):
     """Lays the library's files into build/."""
     say("linking libvougecress.so")
     BUILD.mkdir(exist_ok=True)
     for old in [*BUILD.glob("libvougecress.*"), whole.stamp]:
         old.unlink(missing_ok=True)
     real, asked, linked = shared_names()
-    join(archives, BUILD / "libvougecress.a")
+    shutil.copyfile(archive, BUILD / "libvougecress.a")
     shutil.copyfile(HEADER, BUILD / "vougecress.h")
     link(words, real, asked)
     (BUILD / asked).symlink_to(real)
@@ -107,19 +106,6 @@ def lay(say, whole, archives, words, source):
     here = "${pcfiledir}"
     (BUILD / "vougecress.pc").write_text(pkg_config(here, here, here))
     whole.mark(source)
-
-
-def join(archives, whole):
-    """One archive with the object of each; only the functions for C have names outside their object."""
-    if not shutil.which("ar"):
-        raise Stop(NOT_READY, "needs ar, which comes with the C compiler's tools: there is none in PATH")
-    with tempfile.TemporaryDirectory() as folder:
-        for archive in archives:
-            subprocess.run(["ar", "x", str(archive)], cwd=folder, check=True)
-        objects = sorted(path.name for path in Path(folder).iterdir())
-        if len(objects) != len(archives):
-            raise Stop(NOT_READY, f"the archives hold {len(objects)} objects and not one each")
-        subprocess.run(["ar", "rcsD", str(whole), *objects], cwd=folder, check=True)
 
 
 def link(words, real, asked):

@@ -14,7 +14,7 @@ from system import NOT_READY, Stop
 
 TOP = Path(__file__).resolve().parent.parent
 TARGET = TOP / "target"
-KIT = "rattle-kit-5b-plain"  # the toolchain that the repository is proved with (`rt version`)
+KIT = "rattle-kit-13f"  # the toolchain that the repository is proved with (`rt version`)
 LAST_LINES = 15  # of a log that is shown after a failure
 
 
@@ -28,8 +28,12 @@ def digest_of(paths):
 
 
 def sources():
-    """Every file that a proof depends on."""
-    return [TOP / "crates.txt", *(path for path in (TOP / "crates").rglob("*") if path.is_file())]
+    """Every file that a proof depends on; `rt` keeps its own in the crates' folders out/."""
+    found = []
+    for folder, inner, files in os.walk(TOP / "crates"):
+        inner[:] = [name for name in inner if name != "out"]
+        found += [Path(folder) / name for name in files]
+    return [TOP / "crates.txt", *(path for path in found if path.is_file())]
 
 
 def dependencies():
@@ -38,26 +42,20 @@ def dependencies():
     for line in (TOP / "crates.txt").read_text().splitlines():
         name, colon, others = line.split("#")[0].partition(":")
         if colon:
-            rests_on[name.strip()] = others.split()
+            rests_on[name.split()[0]] = others.split()
     return rests_on
 
 
-def crates_below(crates):
-    """All crates that these rest on, with themselves, and those that they name."""
+def crates_below(crate):
+    """This crate and all that it rests on."""
     rests_on = dependencies()
-    found, waiting = set(), list(crates)
+    found, waiting = set(), [crate]
     while waiting:
         name = waiting.pop()
         if name in rests_on and name not in found:
             found.add(name)
             waiting += rests_on[name]
-    return found, sorted({name for crate in crates for name in rests_on[crate] if name in rests_on} - set(crates))
-
-
-def exporting():
-    """The crates that hold functions for C: each is built into an archive of its own."""
-    folders = [(name, TOP / "crates" / name / "src") for name in dependencies()]
-    return [name for name, folder in folders if any("#[no_mangle]" in path.read_text() for path in folder.rglob("*.rt"))]
+    return found
 
 
 class Product:
@@ -91,7 +89,7 @@ class Product:
 
 
 PROGRAM = Product(TARGET / "bin" / "chainrun.sources", sources, [TARGET / "bin" / "chainrun"])
-ARCHIVES = Product(TARGET / "staticlib" / ".sources", sources, [TARGET / "staticlib" / f"lib{name}.a" for name in exporting()])
+ARCHIVE = Product(TARGET / "staticlib" / ".sources", sources, [TARGET / "staticlib" / "libvougecress_c.a"])
 
 
 def can_write():
@@ -109,18 +107,15 @@ def built_program(say):
     """The path of chainrun, proved and built now if the sources have changed."""
     can_build = shutil.which("rt") and can_write()
     if not PROGRAM.is_fresh() and (can_build or not PROGRAM.is_newer()):
-        build(say, PROGRAM, ["chainrun"], [["check", "chainrun"]], "3 minutes")
+        build(say, PROGRAM, "chainrun", "run", "5 minutes")
     return PROGRAM.files[0]
 
 
-def built_archives(say):
-    """The paths of the archives that make up the library, likewise."""
-    if not ARCHIVES.is_fresh():
-        # the crates below go first, by themselves, since `rt check` proves several at a time and `rt staticlib` does not
-        crates = exporting()
-        _, below = crates_below(crates)
-        build(say, ARCHIVES, crates, [["check", *below], *(["staticlib", name] for name in crates)], "8 minutes")
-    return ARCHIVES.files
+def built_archive(say):
+    """The path of the archive with the functions for C, likewise."""
+    if not ARCHIVE.is_fresh():
+        build(say, ARCHIVE, "vougecress_c", "lib", "8 minutes")
+    return ARCHIVE.files[0]
 
 
 @contextmanager
@@ -136,38 +131,42 @@ def alone(say, name):
         yield
 
 
-def build(say, product, crates, commands, time):
-    """Runs `rt` with each of these commands, one build at a time in this repository."""
+def build(say, product, crate, command, time):
+    """Has `rt` prove and build this crate by this command, one build at a time in this repository."""
     if not shutil.which("rt"):
         raise Stop(NOT_READY, missing_rt())
     if not can_write():
-        raise Stop(NOT_READY, f"{crates[0]} is not built from the present sources, and {TOP} cannot be written")
-    total = len(crates_below(crates)[0])
+        raise Stop(NOT_READY, f"{crate} is not built from the present sources, and {TOP} cannot be written")
+    total = len(crates_below(crate))
     with alone(say, "build.lock"):
         if product.is_fresh():
             return
-        say(f"proving and building {', '.join(crates)} from {total} crates (its parts); the first time some {time} on two cores")
+        say(f"proving and building {crate} from {total} crates (its parts); the first time some {time} on two cores")
         source, progress = product.source(), Progress(say, total)
-        for words in commands:
-            run_rt(words, progress)
+        folder, name = TOP / "crates" / crate, product.files[0].name
+        run_rt(command, folder, name, progress)
         progress.end()
+        product.files[0].parent.mkdir(parents=True, exist_ok=True)
+        shutil.copy(folder / "out" / name, product.files[0])
         product.mark(source)
 
 
-def run_rt(words, progress):
-    log = TARGET / "build.log"
+def run_rt(command, folder, name, progress):
+    """Runs `rt` in a crate's folder and sees that it has made this file. With no input: `rt run` builds a program and runs it once."""
+    log, made = TARGET / "build.log", folder / "out" / name
+    made.unlink(missing_ok=True)
     with open(log, "wb") as whole:
         pipes = {"stdin": subprocess.DEVNULL, "stdout": subprocess.PIPE, "stderr": subprocess.STDOUT}
-        with subprocess.Popen(["rt", *words], cwd=TOP, **pipes) as child:
+        with subprocess.Popen(["rt", command], cwd=folder, **pipes) as child:
             for line in child.stdout:
                 whole.write(line)
                 progress.take(line.decode("utf-8", "replace"))
-    made = TARGET / "staticlib" / f"lib{words[-1]}.a"
-    if child.returncode != 0 or (words[0] == "staticlib" and not made.is_file()):
+    if child.returncode != 0 or not made.is_file():
         progress.end()
         last = log.read_text("utf-8", "replace").splitlines()[-LAST_LINES:]
         shown = "\n".join(f"  {line[:200]}" for line in last)
-        raise Stop(NOT_READY, f"`rt {' '.join(words)}` failed (status {child.returncode}); the end of target/build.log:\n{shown}")
+        where = folder.relative_to(TOP)
+        raise Stop(NOT_READY, f"`rt {command}` in {where} failed (status {child.returncode}); the end of target/build.log:\n{shown}")
 
 
 class Progress:
@@ -178,8 +177,8 @@ class Progress:
         self.terminal = sys.stderr is not None and sys.stderr.isatty()
 
     def take(self, line):
-        found = re.match(r"rt: (\w+) proved|^rt: target/staticlib/lib(\w+)\.a has", line)
-        name = found and (found[1] or found[2])
+        found = re.match(r"crate (\w+): modules ", line)
+        name = found and found[1]
         if not name or name in self.seen:
             return
         self.seen.add(name)

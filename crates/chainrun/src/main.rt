@@ -2,23 +2,18 @@
 // until the end or the first refusal. What all turns print is the crate `job_turn`, proofs/Whole.antt.
 // A program has no exit status: a read or a write that fails is told on standard error, with the system's reason, and ends the run.
 #![tactic(auto)]
-ghost use Rattle.std.specs.Prelude.{◌≡◌, suc, ◌*◌, length};
-ghost use Rattle.io.specs.Counts.{IsPrefixLen};
+
+ghost use Rattle.std.specs.Prelude.{◌≡◌, suc, ◌*◌, ◌≤◌, length, IfOk, OnErr};
 ghost use Rattle.rules.specs.Limits.{most_stream, most_panel};
 ghost use Rattle.text_lines.specs.Laid.{line_room};
 
 use job_text::TEXT_ROOM;
-use libc::{STDERR_FILENO, STDIN_FILENO, STDOUT_FILENO};
+use std::env::{Env, FillError};
+use std::io;
+use std::io::{Print, Read};
 
 // The longest stream and one byte more, by which a longer one is known (`job_turn`, proofs/Whole.antt, `cut`).
 const STREAM_ROOM: usize = 32769;
-
-// What reading gave: how many bytes it put at the start of a buffer, and whether it ended because a read failed.
-#[derive(Drop)]
-struct Input {
-    count: usize,
-    failed: bool,
-}
 
 fn stream_room() -> [u8; STREAM_ROOM]
     ensures { suc most_stream ≡ length result }
@@ -32,69 +27,51 @@ fn text_room() -> [u8; TEXT_ROOM]
     [0; TEXT_ROOM]
 }
 
-// One read; at the end of the input, and where it fails, it gives no byte.
-fn read_some(bytes: &mut [u8]) -> Input
-    ensures { IsPrefixLen result.count bytes.new }
-{
-    let got = libc::read(STDIN_FILENO, bytes);
-    Input {
-        count: io::count(got, bytes),
-        failed: got < 0,
-    }
-}
-
-// Reads until the buffer is full, the input ends or a read fails.
-fn read_stream(bytes: &mut [u8]) -> Input
-    ensures { IsPrefixLen result.count bytes.new }
+// Reads until the buffer is full, the input ends or a read fails: how many bytes it put at the start of the buffer.
+fn read_stream<R: Read>(input: &mut R, bytes: &mut [u8]) -> io::Result<usize>
+    ensures { IfOk result (λ n. n ≤ length bytes.new) }
 {
     let mut done: usize = 0;
     while done < bytes.len() {
-        let more = read_some(&mut bytes[done..]);
-        let count = more.count;
+        let count = input.read(&mut bytes[done..])?;
         if count == 0 {
-            let failed = more.failed;
-            return Input {
-                count: done,
-                failed,
-            };
+            return Ok(done);
         }
         done += count;
     }
-    Input {
-        count: done,
-        failed: false,
-    }
+    Ok(done)
 }
 
-fn say_read_failed() {
-    os::fail(b"chainrun: cannot read standard input");
+// Tells a failure on standard error, without the number that std puts behind the system's reason. Where nobody can be told, nothing is.
+fn tell(rt: &HostRuntime, what: &str, why: io::Error) {
+    let Ok(said) = format!(in rt.alloc(); "{why}") else {
+        let _ = eprintln!(rt; "chainrun: cannot {what}: {why}");
+        return;
+    };
+    let reason = match said.as_str().split_once(" (os error ") {
+        Some((before, _)) => before,
+        None => said.as_str(),
+    };
+    let _ = eprintln!(rt; "chainrun: cannot {what}: {reason}");
 }
 
-fn say_write_failed() {
-    os::fail(b"chainrun: cannot write standard output");
-}
-
-fn say_no_arguments() {
-    io::write_all(
-        STDERR_FILENO,
-        b"chainrun: takes no arguments; it reads a stream from standard input\n",
-    );
+// Whether anything stands behind the program's name.
+fn has_arguments(rt: &HostRuntime) -> bool {
+    let mut start = [0u8; 1];
+    !matches!(rt.arg(1, &mut start), Err(FillError::NotPresent))
 }
 
 // Does the commands of a stream in turn, one write for the text of each.
-fn run_stream(stream: &[u8]) {
+fn run_stream(rt: &HostRuntime, stream: &[u8]) -> io::Result<()> {
     let mut text = text_room();
     let mut unread = stream;
     let mut held = job_state::empty();
     loop {
         let turned = job_turn::turn(stream.len(), unread, held, &mut text);
         let count = turned.count;
-        if !io::write_all(STDOUT_FILENO, &text[..count]) {
-            say_write_failed();
-            return;
-        }
+        rt.write_all(&text[..count])?;
         if !turned.more {
-            return;
+            return Ok(());
         }
         let next = turned.job;
         held = next;
@@ -103,17 +80,20 @@ fn run_stream(stream: &[u8]) {
     }
 }
 
-fn main() {
-    if os::arg_count() > 1 {
-        say_no_arguments();
+fn main(rt: HostRuntime) {
+    if has_arguments(&rt) {
+        let _ = eprintln!(rt;
+            "chainrun: takes no arguments; it reads a stream from standard input"
+        );
         return;
     }
     let mut bytes = stream_room();
-    let input = read_stream(&mut bytes);
-    if input.failed {
-        say_read_failed();
-        return;
+    match read_stream(&mut rt.stdin(), &mut bytes) {
+        Ok(count) => {
+            if let Err(why) = run_stream(&rt, &bytes[..count]) {
+                tell(&rt, "write standard output", why);
+            }
+        }
+        Err(why) => tell(&rt, "read standard input", why),
     }
-    let n = input.count;
-    run_stream(&bytes[..n]);
 }

@@ -1,6 +1,7 @@
 // A bound that parts the units with the smallest keys from the others, and what is asked of one: whether a key is near enough to be looked at, whether
 // a unit is within the bound, and the check of a bound that was searched for.
 #![tactic(auto)]
+
 ghost use Rattle.std.specs.Prelude.{◌≡◌, true, ◌*◌, ◌≤◌, ◌<◌, length, leb};
 ghost use Rattle.rules.specs.Limits.{most_turnover, random_range, most_panel};
 ghost use Rattle.rules.specs.Draw.{fraction_below};

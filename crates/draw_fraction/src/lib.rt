@@ -1,6 +1,7 @@
 // Exact comparison of fractions of 64-bit numbers (document 01, "Draw": "Keys are compared exactly"). Their cross products
 // do not fit 64 bits, so whole parts are compared first, and then the two remainders turned upside down, where less becomes greater.
 #![tactic(auto)]
+
 ghost use Rattle.std.specs.Prelude.{◌≡◌, ◌<◌, ◌/◌};
 ghost use Rattle.rules.specs.Draw.{fraction_below};
 

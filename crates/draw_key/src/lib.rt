@@ -1,6 +1,7 @@
 // Random numbers and keys (document 01, "Draw"; 001, formulas 21 and 22; document 02, [8]). A key is a fraction of two 64-bit products, compared
 // exactly by crate `draw_fraction`; what limits of the frame make the products fit is asked for in `requires`.
 #![tactic(auto)]
+
 ghost use Rattle.std.specs.Prelude.{◌≡◌, ◌-◌, ◌*◌, ◌<◌, ◌≤◌, cond, ltb, length};
 ghost use Rattle.rules.specs.Limits.{most_turnover, random_range, most_panel};
 ghost use Rattle.rules.specs.Draw.{shifted};

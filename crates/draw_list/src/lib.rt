@@ -3,6 +3,7 @@
 // z-th smallest of these is a bound. That exactly z units are within the bound, and that units of its own part are parted rightly, is checked; where the
 // check fails nothing is answered, and the caller orders the keys instead.
 #![tactic(auto)]
+
 ghost use Rattle.std.specs.Prelude.{◌≡◌, true, false, ◌≤◌, ◌<◌, length};
 ghost use Rattle.selection.specs.Marked.{Placed};
 ghost use Rattle.draw_key.specs.Units.{Units};

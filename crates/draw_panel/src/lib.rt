@@ -1,6 +1,7 @@
 // The panel written out (document 01, "Draw"): unit numbers in rising order with their W, from a short list whose units within its bound are the panel, or
 // from marks over the frame. Who is sampled, asked of a few units only, is module `told`.
 #![tactic(auto)]
+
 pub mod told;
 
 ghost use Rattle.std.specs.Prelude.{◌≡◌, ◌<◌, ◌≤◌, length, get_or};

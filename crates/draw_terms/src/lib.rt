@@ -1,6 +1,7 @@
 // The key of a unit as terms (document 01, "Draw"): a numerator over a denominator, with its whole part where that is asked for, and the
 // tests which of two keys is below the other.
 #![tactic(auto)]
+
 ghost use Rattle.std.specs.Prelude.{◌≡◌, true, false, ◌*◌, ◌<◌, ◌/◌, length};
 ghost use Rattle.rules.specs.Draw.{fraction_below};
 ghost use Rattle.draw_key.specs.Units.{Units};

@@ -1,4 +1,2 @@
 pub mod Scan
 pub mod Filled
-pub mod Turns
-pub mod TextCalls

@@ -1,5 +1,5 @@
 // Document 02, [14]: a register of comma lines, imported into a lent list of units or into three lent lists.
-// All lines are judged before the first write. A slice of structs is proved by hand, so `import_units` only calls and stores.
+// All lines are judged before the first write.
 #![tactic(auto)]
 ghost use Rattle.std.specs.Prelude.{◌≡◌, ◌≤◌, length};
 ghost use Rattle.rules.specs.Refusals.{written};

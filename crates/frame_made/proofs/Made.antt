@@ -1,6 +1,5 @@
 -- The generated lists place by place: unit i's values come from the state after i units, of two steps each.
 use mathlib.Core.Path.{◌≡◌, refl, ap}
-use mathlib.Core.List.{List}
 use Prim.Native.Nat.{ℕ, zero, suc, ◌+◌, ◌%◌, ◌<◌}
 use native.Mathlib.Nat.{not-suc-le-zero, le_of_suc-le-suc}
 use native.Mathlib.Omega.{arith}

@@ -1,5 +1,6 @@
 // Document 02, [13]: a test load that both bureaus can make, laid into three lent lists.
 #![tactic(auto)]
+
 ghost use Rattle.std.specs.Prelude.{◌≡◌, ◌≤◌, ◌<◌, length};
 ghost use Rattle.rules.specs.Limits.{most_frame, state_range};
 ghost use Rattle.rules.specs.Refusals.{written};

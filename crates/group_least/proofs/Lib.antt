@@ -1,1 +1,3 @@
 pub mod Passes
+pub mod Counted
+pub mod Known

@@ -2,6 +2,7 @@
 // The definitions' own are in `rules` (specs/Limits.antt); the proof of each function that uses one ties the two, so that a number that differs is
 // refused. The range and the scale of a relative belong to its type (crate `chain_relative`).
 #![tactic(auto)]
+
 ghost use Rattle.std.specs.Prelude.{◌≡◌};
 ghost use Rattle.rules.specs.Chain.{bad_index, bad_units};
 

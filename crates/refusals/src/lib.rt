@@ -1,5 +1,6 @@
 // Document 01's refusals, one variant a case, and what a test of the input says.
 #![tactic(auto)]
+
 ghost use Rattle.std.specs.Prelude.{◌≡◌};
 ghost use Rattle.refusals.specs.Number.{number_of};
 

@@ -1,15 +1,13 @@
 -- Document 02, [9], by worked cases; and the base search is the search over every unit.
 use mathlib.Core.Path.{◌≡◌, refl}
 use Prim.Native.Nat.{ℕ}
-use mathlib.Core.Bool.{Bool}
 use mathlib.Core.List.{List, [], ◌∷◌}
-use lib.ListN.{length, get_or}
 use Rattle.rules.specs.Tests.{◌or◌, ◌and◌}
 use Rattle.rules.specs.Refusals.{Judged, refuse, ◌then◌}
 use Rattle.rules.specs.Lists.{sum, any_of, rises_from, rising, elem}
 use Rattle.rules.specs.Selection.{sum_of, count, by_key, rank, firsts, listed, least_from, every}
 use Rattle.rules.specs.Order.{put, ordered}
-use Rattle.rules.specs.TakeAll.{Frame, frame, Group, Taken, more_turnover, larger, largest, rest_without, reaches_rest, fits, take_all_size, rest_turnover, take_all_group, bad_turnovers, bad_size, bad_count}
+use Rattle.rules.specs.TakeAll.{Frame, frame, Taken, more_turnover, larger, largest, rest_without, reaches_rest, fits, take_all_size, rest_turnover, take_all_group, bad_turnovers, bad_size, bad_count}
 use Rattle.rules.specs.Kept.{Keeping, keeping, in_previous, near_border, candidate, kept, forced, largest_among, rest_among, reaches_among, fits_among, size_among, rest_found_among, group_among, further, enlarge, enlarged_group, bad_list, bad_keeping, keeping_refusal, take_all_units_refusal, take_all_units_answer, take_all_units}
 use Rattle.rules.specs.Draw.{Method, shifted, key_numerator, key_denominator, fraction_below, key_below, sampled_by, bad_lists, bad_random, frame_refusal}
 use Rattle.rules.specs.Rotation.{Rotated, born, old_member, within_previous, joins, member, members, required, start_at, leaves, suffices, least_step, leavers, short_leavers, bad_old_panel, bad_previous, bad_births, kept_lists_refusal, kept_rotation_refusal, kept_rotation_answer, kept_rotation_leavers}

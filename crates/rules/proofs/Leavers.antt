@@ -10,7 +10,7 @@ use Rattle.rules.specs.Selection.{sum_of, count, by_key, rank, firsts, listed, l
 use Rattle.rules.specs.Order.{put, ordered}
 use Rattle.rules.specs.TakeAll.{Frame, frame, more_turnover, larger, largest, rest_without, reaches_rest, fits, take_all_size, rest_turnover, take_all_group, bad_turnovers, bad_size, bad_count}
 use Rattle.rules.specs.Draw.{shifted, key_numerator, key_denominator, fraction_below, key_below, sampled_by, bad_lists, bad_random, frame_refusal}
-use Rattle.rules.specs.Rotation.{Rotated, born, old_member, within_previous, joins, member, members, required, start_at, leaves, suffices, least_step, leavers, short_leavers, bad_old_panel, bad_previous, bad_births, lists_refusal, rotation_refusal, rotation_answer_by, rotation_leavers_by, rotation_answer, rotation_leavers}
+use Rattle.rules.specs.Rotation.{born, old_member, within_previous, joins, member, members, required, start_at, leaves, suffices, least_step, leavers, short_leavers, bad_old_panel, bad_previous, bad_births, lists_refusal, rotation_refusal, rotation_answer_by, rotation_leavers_by, rotation_answer, rotation_leavers}
 
 abbrev six : Frame
 six = frame (1 ∷ 2 ∷ 3 ∷ 4 ∷ 5 ∷ 6 ∷ []) (10 ∷ 30 ∷ 20 ∷ 30 ∷ 25 ∷ 15 ∷ []) (2000 ∷ 1000 ∷ 3000 ∷ 500 ∷ 900000 ∷ 950000 ∷ [])

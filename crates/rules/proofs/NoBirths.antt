@@ -1,13 +1,13 @@
 -- Document 02, [2], "With no births, case K6 must come out as before": so does every rotation. With no births, and whatever n' and X' refusal 25 lets pass,
 -- the answer and the leavers' buffer are document 01's for every frame, by either method.
-use mathlib.Core.Path.{◌≡◌, refl, sym, ap, ◌∙◌, fun_ext}
+use mathlib.Core.Path.{◌≡◌, refl, ap, fun_ext}
 use mathlib.Core.Bool.{Bool, false}
 use mathlib.Core.List.{List, []}
 use Prim.Native.Nat.{ℕ, ◌+◌}
 use native.Mathlib.Omega.{arith}
 use lib.ListN.{length}
-use lib.Dec.{ltb, leb, eqb}
-use Rattle.rules.specs.Limits.{most_frame, steps}
+use lib.Dec.{ltb, leb}
+use Rattle.rules.specs.Limits.{steps}
 use Rattle.rules.specs.Tests.{◌or◌, ◌and◌}
 use Rattle.rules.specs.Refusals.{Judged, refuse, ◌then◌, judged, written}
 use Rattle.rules.specs.Lists.{any_of, rising, elem}
@@ -15,7 +15,7 @@ use Rattle.rules.specs.TakeAll.{Frame, Group, take_all_group}
 use Rattle.rules.specs.Draw.{Method, frame_refusal}
 use Rattle.rules.specs.Rotation.{born, Rotated, old_member, joins, member, start_at, least_step, leavers, short_leavers, bad_old_panel, bad_previous, bad_births, lists_refusal, rotation_refusal, rotated_at, rotation_answer_by, rotation_leavers_by}
 use Rattle.rules.proofs.Tests.{or_none}
-use Rattle.rules.proofs.Refusals.{refuse_off, then_zero}
+use Rattle.rules.proofs.Refusals.{then_zero}
 
 -- ---- Document 01's rotation: the members are the old panel's, 6 asks for its length, and nothing is judged between 7 and 8
 abbrev pub plain_refusal : Method → Frame → ℕ → ℕ → List ℕ → ℕ → List ℕ → ℕ

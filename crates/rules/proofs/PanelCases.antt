@@ -3,7 +3,7 @@
 use mathlib.Core.Path.{◌≡◌, refl}
 use Prim.Native.Nat.{ℕ, ◌+◌, ◌*◌, ◌/◌}
 use mathlib.Core.List.{List, [], ◌∷◌, ◌++◌}
-use lib.ListN.{length, replicate}
+use lib.ListN.{replicate}
 use Rattle.rules.specs.Limits.{share_scale, relative_scale}
 use Rattle.rules.specs.Tests.{◌or◌, outside}
 use Rattle.rules.specs.Refusals.{refuse, ◌then◌}

@@ -1,21 +1,20 @@
 -- Laws of the opening with an outside share (specs/Panel.antt): what 29 lets pass, that the inner floor's own 21 never decides, and that with no
 -- sampled unit the opening is the one without G.
-use mathlib.Core.Path.{◌≡◌, refl, sym, ap, ◌∙◌}
-use mathlib.Core.Bool.{Bool, true, false, not, false≢true}
+use mathlib.Core.Path.{◌≡◌, refl, ap}
+use mathlib.Core.Bool.{true, false, not, false≢true}
 use mathlib.Core.List.{List, [], ◌∷◌}
-use Prim.Native.Nat.{ℕ, zero, suc, ◌+◌, ◌*◌, ◌/◌, ◌<◌, ◌≤◌}
+use Prim.Native.Nat.{ℕ, zero, suc, ◌*◌, ◌/◌, ◌<◌, ◌≤◌}
 use native.Mathlib.Nat.{pos_of_ne-zero, mul-le-mul_left, div-le_of_le-mul}
 use native.Mathlib.Omega.{arith}
-use lib.Dec.{ltb, eqb}
+use lib.Dec.{eqb}
 use lib.ListN.{length, get_or}
 use borrow.Author.Tests.{ltb-true, ltb-false, lt-ltb, eqb-true, eqb-false, eq-eqb, not-false}
 use Rattle.rules.specs.Limits.{share_scale, least_weight}
-use Rattle.rules.specs.Tests.{◌or◌}
 use Rattle.rules.specs.Refusals.{refuse, ◌then◌}
 use Rattle.rules.specs.Lists.{sum, scaled, any_of, any_pair}
-use Rattle.rules.specs.Chain.{shared, bad_weight, open_input_refusal, open_weight_refusal, open_refusal, open_answer}
-use Rattle.rules.specs.Panel.{of_sampled, sampled_size, sampled_base, sampled_shares, outside_whole, inner_floor, each_unit, shared_unit, outside_shared, if_sampled}
-use Rattle.rules.specs.Panel.{bad_outside, bad_inner, outside_input_refusal, outside_refusal, with_domain, panel_refusal, panel_answer}
+use Rattle.rules.specs.Chain.{shared, bad_weight, open_weight_refusal, open_refusal, open_answer}
+use Rattle.rules.specs.Panel.{of_sampled, sampled_size, sampled_base, sampled_shares, inner_floor, each_unit, shared_unit, outside_shared}
+use Rattle.rules.specs.Panel.{bad_outside, bad_inner, outside_input_refusal, outside_refusal, with_domain, panel_answer}
 use Rattle.rules.proofs.Tests.{or_on, or_second, or_false, by_test}
 use Rattle.rules.proofs.Refusals.{refuse_on, refuse_off, then_goes, then_zero}
 

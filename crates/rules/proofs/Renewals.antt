@@ -10,7 +10,7 @@ use Rattle.rules.specs.Tests.{◌or◌, outside}
 use Rattle.rules.specs.Refusals.{Judged, refuse, ◌then◌}
 use Rattle.rules.specs.Lists.{sum, products, scaled, any_of, any_pair}
 use Rattle.rules.specs.Chain.{Chain, Call, held, bad_index, bad_relative, bad_weight, bad_units, bad_open_lists, bad_base, bad_shares, open_input_refusal, weight_refusal, open_weight_refusal}
-use Rattle.rules.specs.Chain.{open_refusal, open_record, open_answer, link, figure_at, bad_links, broken, call_input_refusal, figure_refusal, call_refusal, call_answer, after}
+use Rattle.rules.specs.Chain.{open_refusal, open_record, link, figure_at, bad_links, broken, call_input_refusal, figure_refusal, call_refusal, call_answer, after}
 use Rattle.rules.specs.Panel.{Outside, Panel, plain, refusal_by, outside_input_refusal, outside_refusal, panel_refusal, panel_record, panel_answer}
 use Rattle.rules.specs.Renewal.{renewal_refusal, renewed_record, renewal_answer, renewal_after}
 use Rattle.rules.specs.Events.{Event, Made, singles, events}

@@ -6,7 +6,6 @@ use native.Mathlib.Nat.{le_refl}
 use native.Mathlib.Omega.{arith}
 use lib.Dec.{ltb}
 use borrow.Author.Tests.{ltb-true, ltb-false}
-use Rattle.rules.specs.Tests.{◌and◌}
 use Rattle.rules.specs.Selection.{count, rank, firsts, by_key}
 use Rattle.rules.proofs.Tests.{and_left, and_right, and_on, not_both, cannot_hold}
 use Rattle.selection.specs.Smallest.{Smallest}

@@ -1,7 +1,7 @@
 -- Document 01, "Frame and weights": the take-all group. The largest unit outside the q largest decides whether q fits, so one
 -- scan of the largest units finds q. From that: exactly q units reach X, and outside the group n × turnover stays below X.
 use mathlib.Core.Path.{◌≡◌, refl, sym, ap, ◌∙◌}
-use mathlib.Core.Bool.{true, false, not}
+use mathlib.Core.Bool.{true, false}
 use mathlib.Core.List.{List}
 use Prim.Native.Nat.{ℕ, zero, suc, ◌+◌, ◌-◌, ◌*◌, ◌≤◌, ◌<◌, zero-le}
 use native.Mathlib.Nat.{le_trans, le_refl, mul-le-mul_left, lt_of_le_of_lt, le_antisymm}

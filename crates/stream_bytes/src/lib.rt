@@ -1,5 +1,6 @@
 // Document 01, "Job stream": big-endian operands of two, four and eight bytes. Document 02, [3]: those of four and eight a word at a time.
 #![tactic(auto)]
+
 ghost use Rattle.std.specs.Prelude.{◌≡◌, ◌+◌, ◌<◌, length};
 ghost use Rattle.rules.specs.Stream.{big_endian};
 ghost use Rattle.rules.specs.Word.{word_of};

@@ -1,7 +1,7 @@
 // Document 01, "Job stream": "the reader hands back the rest after it", the unread part of the caller's stream beside the reading.
-// `stream_read` judges. A struct that holds a reference is proved by hand, so the functions over it only call and hand on; `reading_at` and `unread` have
-// plain parameters and results, and whoever calls them needs no proof by hand.
+// `stream_read` judges; the functions over the struct that holds the part only call and hand on. `reading_at` and `unread` have plain parameters and results.
 #![tactic(auto)]
+
 ghost use Rattle.std.specs.Prelude.{◌≡◌};
 ghost use Rattle.rules.specs.Stream.{reading, rest_of};
 ghost use Rattle.stream_read.specs.Value.{reading_from};

@@ -1,6 +1,7 @@
 // Document 01, "Job stream": the command at the front of a part of the stream, and the bytes that it takes; refusals 15, 16 and 17.
 // Places (18) are judged by the job, which knows the panel.
 #![tactic(auto)]
+
 ghost use Rattle.std.specs.Prelude.{◌≡◌, ◌≤◌, length};
 ghost use Rattle.rules.specs.Stream.{width_of, command_of, reading};
 ghost use Rattle.stream_read.specs.Value.{command_from, reading_from, taken_of};

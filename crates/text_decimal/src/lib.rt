@@ -1,5 +1,6 @@
 // Document 01, "Job stream": a line of a letter and one or two numbers in decimal, laid into a lent buffer with the room.
 #![tactic(auto)]
+
 ghost use Rattle.std.specs.Prelude.{◌∷◌, [], ◌+◌, ◌≤◌, length};
 ghost use Rattle.rules.specs.Lines.{line_of, line_of2};
 ghost use Rattle.text_decimal.specs.Put.{digits_of, field_of, start_of, Put};

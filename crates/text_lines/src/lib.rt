@@ -1,6 +1,7 @@
 // Document 01, "Job stream": the lines that `chainrun` prints, laid in decimal at the front of a lent buffer, so that each command's
 // lines are written out at once. Each function answers the bytes that it laid; a buffer without the room named stays as it is.
 #![tactic(auto)]
+
 ghost use Rattle.std.specs.Prelude.{◌≡◌, ◌*◌, ◌≤◌, min, length};
 ghost use Rattle.rules.specs.Lines.{panel_lines, quarter_line, close_line, refusal_line};
 ghost use Rattle.text_decimal.specs.Put.{Put};

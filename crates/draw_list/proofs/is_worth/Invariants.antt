@@ -1,0 +1,10 @@
+-- One pass; nothing is promised of what it says.
+use Prim.Native.Nat.{◌-◌, ◌≤◌}
+use lib.ListN.{length}
+use Rattle.draw_list.proofs.is_worth.Given as goal
+
+abbrev pub invariant-loop-i : goal.invariant-loop-i
+invariant-loop-i l = 0 ≤ l.i
+
+abbrev pub decreases-loop-i : goal.decreases-loop-i
+decreases-loop-i l = length l.turnovers - l.i

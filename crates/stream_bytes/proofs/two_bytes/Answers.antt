@@ -1,0 +1,8 @@
+-- By the law of joined bytes, at 1 + 1.
+use Prim.Native.Nat.{◌+◌}
+use native.Mathlib.Omega.{arith}
+use Rattle.stream_bytes.proofs.Joined.{join, byte}
+use Rattle.stream_bytes.proofs.two_bytes.Goals as goal
+
+pub returns : goal.returns
+returns c = omega (arith, join 1 1 c.args.s.now c.args.i, byte c.args.s.now c.args.i, byte c.args.s.now (c.args.i + 1))

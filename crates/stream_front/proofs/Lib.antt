@@ -1,2 +1,0 @@
-pub mod Slice
-pub mod Results
