@@ -7,9 +7,9 @@ use Rattle.chain_renew.proofs.carried.Goals as goal
 
 pub returns-in-Refused : goal.returns-in-Refused
 returns-in-Refused c = record {
-      result_value = rw (c.refused.ensures, c.in-Refused.is) refl;
-      chain_value = rw (c.refused.ensures, c.in-Refused.is) refl;
-    }
+  result_value = rw (c.refused.ensures, c.in-Refused.is) refl;
+  chain_value = rw (c.refused.ensures, c.in-Refused.is) refl;
+}
 
 pub returns-in-Accepted : goal.returns-in-Accepted
 returns-in-Accepted c = let next = ap record_of c.of-renewed.ensures ∙ ap (record_with _) c.renewed-numbers.ensures in
