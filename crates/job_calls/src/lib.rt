@@ -1,5 +1,6 @@
 // Document 01, "Job stream": the commands on the chain, open, quarter and close; refusal 19.
 #![tactic(auto)]
+
 ghost use Rattle.std.specs.Prelude.{◌≡◌};
 ghost use Rattle.rules.specs.Stream.{Command};
 ghost use Rattle.job_state.specs.Steps.{Steps};
