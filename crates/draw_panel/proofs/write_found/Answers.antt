@@ -1,7 +1,7 @@
 -- After j listed units, those of them within the bound are written: k of them.
 use native.Mathlib.Omega.{arith}
 use mathlib.Core.Path.{refl, sym, ◌∙◌}
-use Rattle.draw_panel.proofs.Writing.{writing_none, writing_skip, writing_not, writing_more, writing_same, places}
+use Rattle.draw_panel.proofs.Writing.{writing_none, writing_not, writing_more, writing_same, places}
 use Rattle.draw_panel.proofs.write_found.Goals as goal
 use Rattle.draw_panel.proofs.write_found.Goals.{then-is_passed, else-is_passed}
 
@@ -37,12 +37,12 @@ pub loop-j-preserved : goal.loop-j-preserved
 loop-j-preserved c =
     let passed = sym c.is_passed.ensures in
     elim c.if-is_passed.branch [
-      then-is_passed w ↦
-        let room = places c.loop-j.invariant.1 c.args.found.count c.loop-j-test.true (sym c.is_passed.ensures ∙ w.if-is_passed.true) c.requires.count_in_bounds.0 c.requires.count_in_bounds.1 in (
-          omega (arith, c.loop-j-test.true),
-          writing_same w.panel-is w.weights-is w.k-is
-              (writing_more c.loop-j.invariant.1 (passed ∙ w.if-is_passed.true) room.0 room.1 refl w.weight_of.ensures),
-        )
+      | then-is_passed w ↦
+          let room = places c.loop-j.invariant.1 c.args.found.count c.loop-j-test.true (sym c.is_passed.ensures ∙ w.if-is_passed.true) c.requires.count_in_bounds.0 c.requires.count_in_bounds.1 in (
+            omega (arith, c.loop-j-test.true),
+            writing_same w.panel-is w.weights-is w.k-is
+                (writing_more c.loop-j.invariant.1 (passed ∙ w.if-is_passed.true) room.0 room.1 refl w.weight_of.ensures),
+          )
       | else-is_passed w ↦ (
         omega (arith, c.loop-j-test.true),
         writing_same w.panel-is w.weights-is w.k-is (writing_not c.loop-j.invariant.1 (passed ∙ w.if-is_passed.false)),
