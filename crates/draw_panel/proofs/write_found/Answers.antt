@@ -10,27 +10,27 @@ loop-j-init c = (omega arith, writing_none)
 
 pub offset_bounds-panel-k : goal.offset_bounds-panel-k
 offset_bounds-panel-k c =
-    let room = places c.loop-j.invariant.1 c.args.found.count c.loop-j-test.true (sym c.is_passed.ensures ∙ c.if-is_passed.true) c.requires.count_in_bounds.0 c.requires.count_in_bounds.1 in
+    let room = places c.loop-j.invariant.1 c.args.found.count c.loop-j-test.true (cc) c.requires.count_in_bounds.0 c.requires.count_in_bounds.1 in
     omega (arith, room.0, c.well_formed)
 
 pub bounds-panel-k : goal.bounds-panel-k
 bounds-panel-k c =
-    let room = places c.loop-j.invariant.1 c.args.found.count c.loop-j-test.true (sym c.is_passed.ensures ∙ c.if-is_passed.true) c.requires.count_in_bounds.0 c.requires.count_in_bounds.1 in
+    let room = places c.loop-j.invariant.1 c.args.found.count c.loop-j-test.true (cc) c.requires.count_in_bounds.0 c.requires.count_in_bounds.1 in
     omega (arith, room.0, c.loop-j.invariant.1.panel_room)
 
 pub offset_bounds-weights-k : goal.offset_bounds-weights-k
 offset_bounds-weights-k c =
-    let room = places c.loop-j.invariant.1 c.args.found.count c.loop-j-test.true (sym c.is_passed.ensures ∙ c.if-is_passed.true) c.requires.count_in_bounds.0 c.requires.count_in_bounds.1 in
+    let room = places c.loop-j.invariant.1 c.args.found.count c.loop-j-test.true (cc) c.requires.count_in_bounds.0 c.requires.count_in_bounds.1 in
     omega (arith, room.1, c.well_formed)
 
 pub bounds-weights-k : goal.bounds-weights-k
 bounds-weights-k c =
-    let room = places c.loop-j.invariant.1 c.args.found.count c.loop-j-test.true (sym c.is_passed.ensures ∙ c.if-is_passed.true) c.requires.count_in_bounds.0 c.requires.count_in_bounds.1 in
+    let room = places c.loop-j.invariant.1 c.args.found.count c.loop-j-test.true (cc) c.requires.count_in_bounds.0 c.requires.count_in_bounds.1 in
     omega (arith, room.1, c.loop-j.invariant.1.weights_room)
 
 pub overflow_add-k : goal.overflow_add-k
 overflow_add-k c =
-    let room = places c.loop-j.invariant.1 c.args.found.count c.loop-j-test.true (sym c.is_passed.ensures ∙ c.if-is_passed.true) c.requires.count_in_bounds.0 c.requires.count_in_bounds.1 in
+    let room = places c.loop-j.invariant.1 c.args.found.count c.loop-j-test.true (cc) c.requires.count_in_bounds.0 c.requires.count_in_bounds.1 in
     omega (arith, room.1, c.well_formed)
 
 pub loop-j-preserved : goal.loop-j-preserved
