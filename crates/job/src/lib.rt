@@ -1,5 +1,6 @@
 // Document 01, "Job stream": what each command does to the job; here the draw of a panel from the frame so far.
 #![tactic(auto)]
+
 ghost use Rattle.rules.specs.Stream as rules;
 ghost use Rattle.stream_read.specs.Value.{command_from};
 ghost use Rattle.job_state.specs.Steps.{Steps};

@@ -1,7 +1,7 @@
 -- THE WHOLE STREAM. What a run prints (specs/Run.antt: turns that each meet the contract of `turn`, from the empty job and the whole stream until one
 -- does not go on) is what `rules` says the stream prints. Each turn takes a command, so that the commands are fewer than the bytes.
 use Prim.Native.Nat.{ℕ, zero, suc, ◌-◌, ◌≤◌, ◌<◌}
-use mathlib.Core.Bool.{Bool, true, false, cond, false≢true}
+use mathlib.Core.Bool.{Bool, true, cond, false≢true}
 use mathlib.Core.Path.{◌≡◌, refl, sym, ap, ap₂, ◌∙◌}
 use mathlib.Core.List.{List, [], ◌++◌, append-nil}
 use lib.ListN.{length, take, drop, length-append}

@@ -1,6 +1,7 @@
 // Document 01, "Job stream": one turn of a stream: the command at the front of the unread part is read and done, and its lines are laid into a
 // lent buffer. A program loops over turns (specs/Run.antt); what all turns print is proofs/Whole.antt.
 #![tactic(auto)]
+
 ghost use Rattle.std.specs.Prelude.{◌≡◌, ◌-◌};
 ghost use Rattle.job_turn.specs.Turn.{Renders};
 
