@@ -14,14 +14,13 @@ use Rattle.c_chain.proofs.records.vougecress_open.Goals as goal
 
 pub returns-then-lent-lt-RECORD : goal.returns-then-lent-lt-RECORD
 unfolding opened_number opened_list refuse ◌then◌
-returns-then-lent-lt-RECORD c = let short = lt-ltb (length c.args.lent-1.now) record_places c.if-lent-lt-RECORD.true in
+returns-then-lent-lt-RECORD c = let short = lt-ltb (length c.args.lent.now) record_places c.if-lent-lt-RECORD.true in
     record { value = rw short; lent_after = rw short }
 
 pub returns : goal.returns
 unfolding opened_number opened_list open_answer opened_record refuse ◌then◌
 returns c = let n = open_refusal c.args.weights.now c.args.shares.now c.args.relatives.now c.args.start in
     let new = open_record (shared c.args.weights.now c.args.shares.now) c.args.relatives.now c.args.start in
-    let long = le-ltb (length c.args.lent-1.now) record_places c.if-lent-lt-RECORD.false in
-    let opened = c.«open».result in
-    let number = c.opening_number_lem.ensures ∙ opening_number_lem opened.answer (record_of opened.chain-1) new n c.«open».ensures.0 in
-    record { value = rw long number; lent_after = rw long (leaves n empty_record new c.args.lent-1.now number c.«open».ensures.1 c.lay.ensures) }
+    let long = le-ltb (length c.args.lent.now) record_places c.if-lent-lt-RECORD.false in
+    let number = c.opening_number-refusal.ensures ∙ opening_number_lem c.open-opened.result.answer (record_of c.open-opened.result.chain) new n c.open-opened.ensures.result_value in
+    record { value = rw long number; lent_after = rw long (leaves n empty_record new c.args.lent.now number c.open-opened.ensures.chain_value c.lay.ensures) }
