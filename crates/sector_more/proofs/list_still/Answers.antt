@@ -20,14 +20,14 @@ loop-i-preserved c =
     let more = c.loop-i-test.true in
     let few : at.many ≤ at.i = at.invariant.few in
     elim c.if-gone-i-eq0.branch [
-      then-gone-i-eq0 w ↦ record {
+      | then-gone-i-eq0 w ↦ record {
         most = omega (arith, more);
         few = omega (arith, few, w.many-is);
         same = ap length w.places-is ∙ simp length-set at.invariant.same;
         held = held_same w.places-is w.many-is
             (held_more (still_on gone at.i w.if-gone-i-eq0.true) (omega (arith, few, at.invariant.same, more, c.requires.1)) at.invariant.held);
       }
-    | else-gone-i-eq0 w ↦ record {
+      | else-gone-i-eq0 w ↦ record {
         most = omega (arith, more);
         few = omega (arith, few, w.many-is);
         same = ap length w.places-is ∙ at.invariant.same;

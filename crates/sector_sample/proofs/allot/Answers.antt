@@ -1,5 +1,5 @@
 -- The passes, the division and what is given, one after the other (proofs/Allotted.antt).
-use mathlib.Core.Path.{refl, sym}
+use mathlib.Core.Path.{refl}
 use Rattle.rules.specs.Allocation.{sharing}
 use Rattle.sector_passes.proofs.Settling.{strengths_summable, given_low}
 use Rattle.sector_sample.proofs.Allotted.{Ready, dividable, wholes_are, wholes_summable, sum_fits, remainders_are, givable, counts_are}
