@@ -7,7 +7,7 @@ use native.Mathlib.Omega.{arith}
 use lib.ListN.{length, set, length-set}
 use Rattle.rules.specs.Refusals.{written}
 use Rattle.rules.specs.Selection.{sum_of, count, listed}
-use Rattle.selection.proofs.Sums.{count_yes, count_skip, listed_skip, written_store}
+use Rattle.selection.proofs.Sums.{count_yes, count_skip, listed_skip, written_store, has_room}
 
 pub record Writing (p : ℕ → Bool) (f g : ℕ → ℕ) (panel₀ weights₀ panel weights : List ℕ) (i k : ℕ) : Type 0 where
   pub many : k ≡ count p i
@@ -33,6 +33,12 @@ module _ {p : ℕ → Bool} {f g : ℕ → ℕ} {panel₀ weights₀ panel weigh
 
   pub writing_not : p i ≡ false → Writing p f g panel₀ weights₀ panel weights (i + 1) k
   writing_not h = writing_skip (i + 1) (omega arith) (λ m a b. let e : m ≡ i = omega arith in rw e h)
+
+  -- one with the mark has its place in both
+  pub places : (n : ℕ) → i < n → p i ≡ true → count p n ≤ length panel₀ → count p n ≤ length weights₀ → (k < length panel₀) × (k < length weights₀)
+  places n l h a b =
+      let room = has_room p n i l h in
+      (omega (arith, w.many, room, a), omega (arith, w.many, room, b))
 
   -- one with the mark is written to both
   pub writing_more :

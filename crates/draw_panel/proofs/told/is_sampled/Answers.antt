@@ -10,4 +10,4 @@ returns-then-gaps-i-eq0 c = sym (sampled_keyless _ _ _ c.args.s _ (eq-eqb _ _ c.
 
 pub returns : goal.returns
 returns c = let bounds = c.requires.1.by_bound (not-false _ c.if-not-t.false) in
-    c.is_Within.ensures ∙ within_sampled c.requires.0 refl bounds _ c.requires.2 (ne_eqb _ _ c.if-gaps-i-eq0.false)
+    c.is_within.ensures ∙ within_sampled c.requires.0 refl bounds _ c.requires.2 (ne_eqb _ _ c.if-gaps-i-eq0.false)
