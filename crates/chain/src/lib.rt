@@ -1,6 +1,7 @@
 // Document 01, "Chain record": quarter and close, by value on the record. They differ where the document says so, in what a close does to the
 // record; the rest is shared, the refusals and the figure in crate `chain_figure`. Opening a record is crate `chain_open`.
 #![tactic(auto)]
+
 ghost use Rattle.std.specs.Prelude.{◌≡◌};
 ghost use Rattle.rules.specs.Chain.{Call, call_answer, after};
 ghost use Rattle.chain_record.specs.Record.{empty_record};

@@ -1,5 +1,6 @@
 // Document 01, "Chain record", open: what is refused of the input, 9 to 13.
 #![tactic(auto)]
+
 ghost use Rattle.std.specs.Prelude.{◌≡◌, ◌≤◌, length};
 ghost use Rattle.refusals.specs.Number.{verdict_of};
 ghost use Rattle.rules.specs.Limits.{most_panel};

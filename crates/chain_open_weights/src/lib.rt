@@ -1,6 +1,7 @@
 // Document 01, "Chain record", open, in two steps: the weights u; and from the u, however they were come by, the opening weights v and what is
 // refused of both, 21 and 22.
 #![tactic(auto)]
+
 ghost use Rattle.std.specs.Prelude.{◌≡◌, length};
 ghost use Rattle.refusals.specs.Number.{verdict_of};
 ghost use Rattle.rules.specs.Lists.{any_pair};

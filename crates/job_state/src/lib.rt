@@ -1,6 +1,7 @@
 // Document 01, "Job stream": what a job holds, what a command says, and the jobs that commands leave.
 // A job is held by value, and any value of the type is a job: a count beyond an array's places reads as all of them.
 #![tactic(auto)]
+
 ghost use Rattle.std.specs.Prelude.{◌≡◌, min};
 ghost use Rattle.rules.specs.Job.{empty_job};
 ghost use Rattle.job_state.specs.State.{job_of};

@@ -1,15 +1,13 @@
 -- The rows read so far stand at the front of each list. One law for a store, over the column; cited for the six lists.
 use Prim.Native.Nat.{ℕ, zero, suc, ◌+◌, ◌≤◌, ◌<◌}
 use mathlib.Core.Path.{◌≡◌, refl, sym, ap, ap₂, ◌∙◌}
-use mathlib.Core.Bool.{Bool, true, false}
+use mathlib.Core.Bool.{false}
 use mathlib.Core.List.{List, [], ◌∷◌, map}
-use lib.ListN.{length, take, drop, set, length-map, length-set, length-drop, get_or}
+use lib.ListN.{length, drop, set, length-map, length-set, length-drop, get_or}
 use lib.Seq.{drop-drop}
-use lib.Dec.{ltb}
 use native.Mathlib.Omega.{arith}
 use native.Mathlib.Numerals.{add-one}
 use borrow.Author.Tests.{ltb-false}
-use Rattle.rules.specs.Tests.{◌or◌}
 use Rattle.rules.specs.Refusals.{Judged, written}
 use Rattle.rules.specs.Stream.{Command, Front, reading, rest_of}
 use Rattle.rules.specs.Writing.{Row, Lists, lists, row_of, columns, rows_read, below, too_short, written_over}

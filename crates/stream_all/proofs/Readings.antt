@@ -1,12 +1,12 @@
 -- A whole stream by its first reading; the bound on the readings does not matter.
-use Prim.Native.Nat.{ℕ, zero, suc, ◌≤◌, ◌<◌}
+use Prim.Native.Nat.{ℕ, zero, suc, ◌<◌}
 use mathlib.Core.Path.{◌≡◌, refl, sym, ap, ◌∙◌}
 use mathlib.Core.List.{List, [], ◌∷◌, map}
 use lib.ListN.{length}
 use native.Mathlib.Omega.{arith}
 use Rattle.rules.specs.Refusals.{Judged}
 use Rattle.rules.specs.Stream.{Command, Front, reading, rest_of}
-use Rattle.rules.specs.Writing.{Row, Whole, whole_by, whole_in, whole_of, row_of, rows_read}
+use Rattle.rules.specs.Writing.{Whole, whole_by, whole_in, whole_of, row_of, rows_read}
 use Rattle.stream_read.proofs.Unread.{rest_shorter}
 
 one : (most : ℕ) (s : List ℕ) → whole_in (suc most) s ≡ whole_by (reading s) (whole_in most (rest_of s))

@@ -1,6 +1,7 @@
 // Document 02, [4]: a whole job stream read into six lent lists, operands in their widths, absent operands 0. The first of two passes only counts,
 // since nothing is written before all is judged.
 #![tactic(auto)]
+
 ghost use Rattle.std.specs.Prelude.{◌≡◌, false, length};
 ghost use Rattle.rules.specs.Refusals.{judged};
 ghost use Rattle.rules.specs.Writing.{lists, columns, whole_of, rows_read, below, too_short, written_over, read_all_answer, read_all_lists};

@@ -5,7 +5,7 @@ use mathlib.Core.Bool.{Bool, true, false, cond}
 use mathlib.Core.List.{List, [], ◌∷◌, ◌++◌, map}
 use lib.ListN.{length, get_or, take, drop, length-map, take-append-drop}
 use lib.Seq.{take_at, get_or-drop}
-use lib.Dec.{ltb, eqb}
+use lib.Dec.{eqb}
 use native.Mathlib.Omega.{arith}
 use borrow.Author.Tests.{le-ltb, ltb-false, eqb-true, eqb-false, eq-eqb}
 use Rattle.rules.specs.Limits.{most_stream}
@@ -13,7 +13,7 @@ use Rattle.rules.specs.Tests.{outside, ◌or◌}
 use Rattle.rules.specs.Lists.{any_of}
 use Rattle.rules.specs.Refusals.{Judged, judged, written, refuse, ◌then◌}
 use Rattle.rules.specs.Stream.{Command, Front, width_of, command_of, reading_refusal, reading, rest_by, rest_of}
-use Rattle.rules.specs.Writing.{Row, Lists, lists, command_bytes, stream_of, rows_of, rows_in, stream_in, differ, unequal, write_refusal, write_answer, write_bytes, Whole, whole_by, whole_of, row_of, columns, rows_read, too_short, written_over, read_all_refusal, read_all_answer, read_all_lists}
+use Rattle.rules.specs.Writing.{Row, Lists, command_bytes, stream_of, rows_of, rows_in, stream_in, differ, unequal, write_refusal, write_answer, write_bytes, Whole, whole_of, row_of, columns, rows_read, too_short, written_over, read_all_refusal, read_all_answer, read_all_lists}
 use Rattle.rules.proofs.Refusals.{then_none, refuse_none, given_tells}
 use Rattle.stream_read.proofs.Unread.{rest_shorter}
 use Rattle.stream_write.proofs.Rows.{no_stream, one_more_lem}

@@ -1,23 +1,22 @@
 -- One command: its bytes, read at the front of a part, are the command that the row says; and what was read has those bytes.
 use Prim.Native.Nat.{ℕ, zero, suc, ◌+◌, ◌^◌, ◌≤◌, ◌<◌}
 use mathlib.Core.Path.{◌≡◌, refl, sym, ap, ap₂, ◌∙◌}
-use mathlib.Core.Bool.{false, cond}
+use mathlib.Core.Bool.{false}
 use mathlib.Core.List.{List, [], ◌∷◌, ◌++◌, map, append_assoc}
 use lib.ListN.{length, get_or, take, drop, length-append}
 use lib.Seq.{drop_at, drop-drop, take-add}
-use lib.Dec.{ltb, eqb}
 use native.Mathlib.Omega.{arith}
 use borrow.Author.Tests.{le-ltb, ne_eqb}
 use Rattle.rules.specs.Limits.{most_stream}
 use Rattle.rules.specs.Tests.{outside, ◌or◌}
 use Rattle.rules.specs.Lists.{any_of, elem}
-use Rattle.rules.specs.Refusals.{Judged, refuse, ◌then◌, judged}
-use Rattle.rules.specs.Stream.{Column, Command, Front, big_endian, bytes_in, bytes_of, operands_of, width_of, operands_from, command_by, command_of, reading_refusal, reading, rest_by, rest_of}
+use Rattle.rules.specs.Refusals.{Judged, refuse, ◌then◌}
+use Rattle.rules.specs.Stream.{Column, Front, big_endian, bytes_in, bytes_of, operands_of, width_of, operands_from, command_by, command_of, reading_refusal, reading, rest_by, rest_of}
 use Rattle.rules.specs.Writing.{Row, row, value_in, bytes_with, operand_bytes, command_bytes, row_of, command_in}
 use Rattle.rules.proofs.Tests.{within}
 use Rattle.stream_put.proofs.Halves.{bytes_length}
 use Rattle.stream_write.proofs.Rows.{command_length}
-use Rattle.stream_copy.specs.Copied.{Bytes, column_number, kept, cleared}
+use Rattle.stream_copy.specs.Copied.{Bytes, kept, cleared}
 use Rattle.stream_copy.proofs.Numbers.{from_part, in_front, reads_back, writes_back}
 
 -- ---- written and read

@@ -1,5 +1,5 @@
 -- WRITTEN AND READ: reading a written stream to its end yields the commands that were given, absent operands 0.
-use Prim.Native.Nat.{ℕ, zero, suc, ◌+◌, ◌^◌, ◌≤◌, ◌<◌}
+use Prim.Native.Nat.{ℕ, zero, suc, ◌+◌, ◌≤◌, ◌<◌}
 use mathlib.Core.Path.{◌≡◌, refl, sym, ap, ap₂, ◌∙◌}
 use mathlib.Core.Bool.{false}
 use mathlib.Core.List.{List, [], ◌∷◌, ◌++◌, map}
@@ -9,12 +9,12 @@ use native.Mathlib.Omega.{arith}
 use Rattle.rules.specs.Limits.{most_stream}
 use Rattle.rules.specs.Tests.{outside}
 use Rattle.rules.specs.Lists.{any_of}
-use Rattle.rules.specs.Refusals.{Judged, judged, written, refuse, ◌then◌}
+use Rattle.rules.specs.Refusals.{Judged, written, refuse, ◌then◌}
 use Rattle.rules.specs.Stream.{Column, Front, reading_refusal, reading}
-use Rattle.rules.specs.Writing.{Row, Lists, lists, row, command_bytes, stream_of, rows_of, rows_in, stream_in, write_refusal, write_answer, write_bytes, Whole, whole_by, whole_of, row_of, command_in, columns, rows_read, too_short, written_over, read_all_refusal, read_all_answer, read_all_lists}
+use Rattle.rules.specs.Writing.{Row, Lists, lists, command_bytes, stream_of, rows_of, rows_in, stream_in, write_refusal, write_answer, write_bytes, Whole, whole_by, whole_of, row_of, command_in, columns, rows_read, too_short, written_over, read_all_refusal, read_all_answer, read_all_lists}
 use Rattle.rules.proofs.Tests.{or_false}
 use Rattle.rules.proofs.Refusals.{given_tells}
-use Rattle.stream_write.proofs.Rows.{Accepted, accepted, blank, no_stream, one_more_lem, rows_kinds, rows_length}
+use Rattle.stream_write.proofs.Rows.{accepted, blank, no_stream, one_more_lem, rows_kinds, rows_length}
 use Rattle.stream_all.proofs.Readings.{by_reading}
 use Rattle.stream_copy.specs.Copied.{InWidths, cleared}
 use Rattle.stream_copy.proofs.Front.{Fitting, reads_command, rest_behind, row_again}

@@ -1,5 +1,5 @@
 -- Document 02, [4]: what the two round trips say. Lists and streams that come from slices of their types are in their widths.
-use Rattle.std.specs.Prelude.{ℕ, ◌^◌, ◌<◌, Bool, cond, List, map, get_or, take, eqb}
+use Rattle.std.specs.Prelude.{ℕ, ◌^◌, ◌<◌, cond, List, map, get_or, take}
 use Rattle.rules.specs.Lists.{elem}
 use Rattle.rules.specs.Stream.{Column, operands_of}
 use Rattle.rules.specs.Writing.{Row, Lists, row, lists, value_in}

@@ -1,5 +1,6 @@
 // Document 02, [4]: operands of one, two, four and eight bytes, the highest byte first, laid into a lent buffer with the room.
 #![tactic(auto)]
+
 ghost use Rattle.std.specs.Prelude.{◌+◌, ◌≤◌, length};
 ghost use Rattle.rules.specs.Writing.{bytes_with};
 ghost use Rattle.text_decimal.specs.Put.{Put};

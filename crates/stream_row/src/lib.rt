@@ -1,5 +1,6 @@
 // Document 02, [4]: a command with a value in each column, as the six lists of a writer have it.
 #![tactic(auto)]
+
 ghost use Rattle.std.specs.Prelude.{◌≡◌};
 ghost use Rattle.rules.specs.Writing.{row, row_of};
 ghost use Rattle.stream_read.specs.Value.{command_from};

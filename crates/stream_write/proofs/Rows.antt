@@ -5,15 +5,15 @@ use mathlib.Core.Bool.{Bool, true, false, not, cond}
 use mathlib.Core.List.{List, [], ◌∷◌, ◌++◌, map, append_assoc, append-nil}
 use lib.ListN.{length, get_or, take, drop, length-append, length-map, take-append-drop}
 use lib.Seq.{take-suc, take_all, get_or-drop}
-use lib.Dec.{eqb, ltb}
+use lib.Dec.{eqb}
 use native.Mathlib.Omega.{arith}
 use native.Mathlib.Numerals.{add-one, one-add}
 use borrow.Author.Tests.{eqb-true, ltb-false, not-false}
 use Rattle.rules.specs.Limits.{most_stream}
-use Rattle.rules.specs.Tests.{◌or◌, outside}
+use Rattle.rules.specs.Tests.{outside}
 use Rattle.rules.specs.Lists.{sum, any_of}
 use Rattle.rules.specs.Stream.{Column, bytes_in, bytes_of, operands_of, width_of}
-use Rattle.rules.specs.Writing.{Row, Lists, row, value_in, bytes_with, operand_bytes, command_bytes, stream_of, rows_of, rows_in, stream_in, differ, unequal, write_refusal}
+use Rattle.rules.specs.Writing.{Row, Lists, row, value_in, bytes_with, operand_bytes, command_bytes, stream_of, rows_of, rows_in, stream_in, differ, write_refusal}
 use Rattle.rules.proofs.Tests.{or_false}
 use Rattle.rules.proofs.Lists.{drop_step, drop_end}
 use Rattle.rules.proofs.Refusals.{then_none, refuse_none}

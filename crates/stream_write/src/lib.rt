@@ -1,6 +1,7 @@
 // Document 02, [4]: a list of commands, operands in their widths, written as a job stream. The elements of each list have exactly their operand's width,
 // so that no operand can be too large.
 #![tactic(auto)]
+
 ghost use Rattle.std.specs.Prelude.{◌≡◌, ◌++◌, map, ◌+◌, ◌≤◌, min, length};
 ghost use Rattle.rules.specs.Limits.{most_stream};
 ghost use Rattle.rules.specs.Tests.{outside};

@@ -1,5 +1,6 @@
 // Document 02, [12]: the change of a figure against the year before, in hundredths of a percent, and the exact rest.
 #![tactic(auto)]
+
 ghost use Rattle.std.specs.Prelude.{◌≡◌, ◌≤◌};
 ghost use Rattle.rules.specs.Limits.{lowest_index, highest_index};
 ghost use Rattle.rules.specs.Sheet.{change_of};

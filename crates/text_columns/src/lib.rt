@@ -1,5 +1,6 @@
 // Document 02, [12]: texts in columns, laid into a lent buffer with the room: a name to the left, a number with decimals to the right.
 #![tactic(auto)]
+
 ghost use Rattle.std.specs.Prelude.{◌≡◌, ◌+◌, ◌/◌, ◌^◌, ◌≤◌, ◌<◌, length, replicate};
 ghost use Rattle.rules.specs.Limits.{name_columns, number_columns, figure_decimals};
 ghost use Rattle.rules.specs.Sheet.{last_digits, with_decimals, left_in, right_in};

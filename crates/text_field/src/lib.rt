@@ -1,5 +1,6 @@
 // Document 02, [14]: a decimal field at an offset of a text, with the comma or the end of line that must follow it.
 #![tactic(auto)]
+
 ghost use Rattle.std.specs.Prelude.{◌≡◌, ◌≤◌, ◌-◌, get_or};
 ghost use Rattle.rules.specs.Register.{is_digit, sized, field_at, comma_at, end_at, field_and_comma, field_and_end};
 ghost use Rattle.text_field.specs.Value.{part_from};

@@ -1,7 +1,17 @@
 -- Each turn leaves the marks as the pass says (`Passed`); the two products of a turn fit.
-use Prim.Native.Nat.{◌-◌}
+use mathlib.Core.Path.{◌≡◌}
+use mathlib.Core.List.{List}
+use Rattle.sector_passes.specs.Marks.{still_in, is_below}
+use Rattle.sector_passes.proofs.Passed.{Passed}
+use Prim.Native.Nat.{ℕ, ◌-◌, ◌≤◌}
 use lib.ListN.{length}
 use Rattle.sector_passes.proofs.pass.Given as goal
+
+pub record Turned (rest total : ℕ) (ss ms gone₀ gone : List ℕ) (leave i : ℕ) : Type 0 where
+  pub most : i ≤ length ss
+  pub few : leave ≤ i
+  pub same : length gone ≡ length gone₀
+  pub marks : Passed (still_in gone₀) (is_below rest total ss ms) gone i leave
 
 abbrev pub invariant-loop-i : goal.invariant-loop-i
 invariant-loop-i l = Turned l.rest l.total l.strengths l.minima l.initial.gone l.gone l.leave l.i

@@ -1,8 +1,15 @@
 -- The values of the sectors that are still there, added.
+use mathlib.Core.Bool.{Bool}
+use mathlib.Core.List.{List}
+use Prim.Native.Nat.{ℕ}
+use Rattle.sector_passes.specs.Marks.{still_in}
 use Prim.Native.Nat.{◌-◌}
 use lib.ListN.{length}
 use Rattle.sector_passes.proofs.Summed.{Summed}
 use Rattle.sector_passes.proofs.sum_still.Given as goal
+
+abbrev pub counted : List ℕ → ℕ → Bool
+counted gone = still_in gone
 
 abbrev pub invariant-loop-i : goal.invariant-loop-i
 invariant-loop-i l = Summed (counted l.gone) l.values l.total l.i

@@ -7,8 +7,8 @@ use lib.ListN.{length}
 use native.Mathlib.Omega.{arith}
 use Rattle.rules.specs.Refusals.{Judged}
 use Rattle.rules.specs.Stream.{Command, Front, reading}
-use Rattle.rules.specs.Writing.{Lists, lists, rows_read, too_short}
-use Rattle.stream_read.specs.Value.{reading_from, command_from}
+use Rattle.rules.specs.Writing.{Lists, rows_read, too_short}
+use Rattle.stream_read.specs.Value.{reading_from}
 use Rattle.stream_read.proofs.Unread.{rest_shorter}
 use Rattle.stream_row.specs.Value.{row_from}
 use Rattle.stream_all.proofs.Readings.{ended, stopped}

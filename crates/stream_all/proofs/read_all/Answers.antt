@@ -2,9 +2,8 @@
 use Prim.Native.Nat.{ℕ}
 use mathlib.Core.Path.{◌≡◌, refl, sym, ap, ◌∙◌}
 use mathlib.Core.Bool.{Bool}
-use lib.ListN.{length}
 use Rattle.rules.specs.Refusals.{refuse, ◌then◌}
-use Rattle.rules.specs.Writing.{Lists, lists, whole_of, rows_read, too_short, read_all_refusal, read_all_answer, read_all_lists}
+use Rattle.rules.specs.Writing.{Lists, lists, whole_of, too_short, read_all_refusal, read_all_answer, read_all_lists}
 use Rattle.rules.proofs.Refusals.{given_tells, refused_tells}
 use Rattle.refusals.specs.Number.{number_of}
 use Rattle.refusals.proofs.Numbers.{number_is_suc}

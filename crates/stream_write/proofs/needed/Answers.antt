@@ -1,5 +1,4 @@
 -- The bytes so far and those of what is left are all; the sum stops over the limit.
-use Prim.Native.Nat.{◌-◌}
 use lib.ListN.{get_or}
 use native.Mathlib.Omega.{arith}
 use Rattle.stream_write.proofs.Rows.{most_width, width_step, width_end}

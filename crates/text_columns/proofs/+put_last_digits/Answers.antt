@@ -1,5 +1,5 @@
 -- The last digits of a tenth, one fewer of them, and one more: `put_last_digits` calls itself at k − 1.
-use Prim.Native.Nat.{ℕ, suc, ◌+◌, ◌-◌, ◌/◌}
+use Prim.Native.Nat.{ℕ, suc, ◌-◌, ◌/◌}
 use mathlib.Core.Path.{◌≡◌, sym, ap, ◌∙◌}
 use native.Mathlib.Omega.{arith}
 use Rattle.rules.specs.Sheet.{last_digits}

@@ -1,5 +1,4 @@
 -- The text, then spaces up to a name's columns.
-use Prim.Native.Nat.{◌-◌}
 use native.Mathlib.Omega.{arith}
 use Rattle.rules.specs.Sheet.{left_in}
 use Rattle.text_decimal.proofs.Laying.{in_turn}

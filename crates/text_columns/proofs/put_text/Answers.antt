@@ -1,5 +1,4 @@
 -- The first i bytes of the text stand from the place at on.
-use Prim.Native.Nat.{◌-◌}
 use borrow.Author.Rules.{rules}
 use mathlib.Core.Path.{refl, sym, ap, ◌∙◌}
 use lib.ListN.{take}

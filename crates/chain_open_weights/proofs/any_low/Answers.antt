@@ -1,0 +1,18 @@
+-- `any_low`: the test of what is left is the test of the whole, until a unit fails it.
+use native.Mathlib.Omega.{arith}
+use mathlib.Core.Path.{refl, sym, ◌∙◌}
+use Rattle.rules.specs.Chain.{bad_weight}
+use Rattle.rules.proofs.Lists.{pair_found, pair_next, pair_none}
+use Rattle.chain_open_weights.proofs.any_low.Goals as goal
+
+pub loop-i-init : goal.loop-i-init
+loop-i-init c = (omega arith, refl)
+
+pub returns-then-bad_weight : goal.returns-then-bad_weight
+returns-then-bad_weight c = pair_found bad_weight _ _ c.loop-i.i _ c.loop-i.invariant.1 (omega arith) (omega arith) (sym c.bad_weight.ensures ∙ c.if-bad_weight.true)
+
+pub loop-i-preserved : goal.loop-i-preserved
+loop-i-preserved c = (omega arith, pair_next bad_weight _ _ c.loop-i.i _ c.loop-i.invariant.1 (omega arith) (omega arith) (sym c.bad_weight.ensures ∙ c.if-bad_weight.false))
+
+pub returns : goal.returns
+returns c = pair_none bad_weight _ _ c.loop-i.i _ c.loop-i.invariant.1 c.loop-i-test.false
