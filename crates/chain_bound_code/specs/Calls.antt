@@ -33,7 +33,7 @@ use Rattle.chain_renew.proofs.renew.Reads as renew-reads
 use Rattle.chain_renew.specs.contracts.renew_outside as renew-outside-contract
 use Rattle.chain_renew.proofs.renew_outside.Reads as renew-outside-reads
 
--- `chain_open::open` of the slices w, g and a and of start returned o; `now w` is what w holds.
+-- `chain_open::open` of the slices w, g and a and of start returned o; `w.now` is what w holds.
 pub record OpenMade (w g a : Bor (List ℕ)) (start : ℕ) (o : Opened) : Type 0 where
   pub lifetimes : Lfts 3
   pub end : AtExit open-contract.ended lifetimes
