@@ -1,6 +1,7 @@
 // Document 01, "Job stream": all that a stream prints, laid into a lent buffer. The first of two passes over the turns (`job_turn`) only counts, since a
 // buffer that is too short is to stay as it was; the count is an answer of its own.
 #![tactic(auto)]
+
 ghost use Rattle.std.specs.Prelude.{◌≡◌, ◌≤◌, length, take};
 ghost use Rattle.rules.specs.Job.{output};
 ghost use Rattle.text_lines.specs.Laid.{panel_room};
