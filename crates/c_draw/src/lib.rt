@@ -1,5 +1,6 @@
 // A draw, by Pareto keys or by sequential Poisson keys, on a lent frame and buffers.
 #![tactic(auto)]
+
 ghost use Rattle.std.specs.Prelude.{◌≡◌};
 ghost use Rattle.rules.specs.TakeAll.{frame};
 ghost use Rattle.rules.specs.Draw.{Method as KeyMethod, draw_answer, draw_numbers_by, draw_weights_by, draw_numbers, draw_weights};

@@ -1,5 +1,6 @@
 // A draw with a threshold and the take-all lists of previous draws (document 02, [9]), by either key, on a lent frame, lists and buffers.
 #![tactic(auto)]
+
 ghost use Rattle.std.specs.Prelude.{◌≡◌};
 ghost use Rattle.rules.specs.TakeAll.{frame};
 ghost use Rattle.rules.specs.Kept.{keeping};

@@ -1,5 +1,6 @@
 // Take-all, on lent turnovers and marks.
 #![tactic(auto)]
+
 ghost use Rattle.std.specs.Prelude.{◌≡◌};
 ghost use Rattle.rules.specs.TakeAll.{take_all_answer, take_all_marks};
 ghost use Rattle.c_group.specs.Answer.{taken_from};

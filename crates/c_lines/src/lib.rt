@@ -1,6 +1,7 @@
 // Document 02, [14], for callers in C: a register of comma lines into three lent lists or a lent list of units.
 // include/vougecress.h documents it for its caller.
 #![tactic(auto)]
+
 ghost use Rattle.std.specs.Prelude.{◌≡◌, length};
 ghost use Rattle.frame_lines.specs.Value.{imported_from, units_after};
 ghost use Rattle.rules.specs.Register.{imported, room_of, imported_numbers, imported_turnovers, imported_randoms};

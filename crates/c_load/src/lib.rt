@@ -1,5 +1,6 @@
 // Document 02, [13], for callers in C: the test load. include/vougecress.h documents it for its caller.
 #![tactic(auto)]
+
 ghost use Rattle.std.specs.Prelude.{◌≡◌};
 ghost use Rattle.rules.specs.Load.{load_answer, load_numbers, load_turnovers, load_randoms};
 ghost use Rattle.c_load.specs.Loaded.{loaded_from};

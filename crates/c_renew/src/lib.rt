@@ -1,4 +1,5 @@
 // Document 02, [11], for callers in C: a renewal on a lent record, without and with an outside share.
 #![tactic(auto)]
+
 pub mod outside;
 pub mod renewal;

@@ -1,5 +1,6 @@
 // Rotation, by Pareto keys or by sequential Poisson keys, on a lent frame, old panel, births and buffer.
 #![tactic(auto)]
+
 ghost use Rattle.std.specs.Prelude.{◌≡◌};
 ghost use Rattle.rules.specs.TakeAll.{frame};
 ghost use Rattle.rules.specs.Rotation.{born, rotation_answer_by, rotation_leavers_by, rotation_answer, rotation_leavers};

@@ -1,5 +1,6 @@
 // Document 02, [10], for callers in C: the sample shared over sectors. include/vougecress.h documents it for its caller.
 #![tactic(auto)]
+
 ghost use Rattle.std.specs.Prelude.{◌≡◌};
 ghost use Rattle.rules.specs.Allocation.{sharing};
 ghost use Rattle.refusals.specs.Number.{verdict_of};

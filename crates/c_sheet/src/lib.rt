@@ -1,5 +1,6 @@
 // Document 02, [12], for callers in C: a line of the quarterly sheet. include/vougecress.h documents it for its caller.
 #![tactic(auto)]
+
 ghost use Rattle.std.specs.Prelude.{◌≡◌};
 ghost use Rattle.rules.specs.Sheet.{sheet_answer, sheet_bytes};
 ghost use Rattle.c_sheet.specs.Laid.{laid_from};

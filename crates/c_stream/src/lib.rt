@@ -1,5 +1,6 @@
 // The reader of a job stream, and what a whole stream prints, on lent bytes.
 #![tactic(auto)]
+
 ghost use Rattle.std.specs.Prelude.{◌≡◌, length, drop};
 ghost use Rattle.rules.specs.Stream.{reading, rest_of};
 ghost use Rattle.stream_read.specs.Value.{taken_of};

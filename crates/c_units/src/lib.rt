@@ -1,5 +1,6 @@
 // The take-all group as unit numbers, on a lent frame, lists and buffer.
 #![tactic(auto)]
+
 ghost use Rattle.std.specs.Prelude.{◌≡◌};
 ghost use Rattle.rules.specs.Kept.{keeping, take_all_units_answer, take_all_units};
 ghost use Rattle.c_group.specs.Answer.{taken_from};

@@ -1,6 +1,7 @@
 // What crosses to a caller in C: the figure of a call, the number of an opening, the chain record as a list of numbers, and a command that was read.
 // The exported functions stand in crate vougecress.
 #![tactic(auto)]
+
 pub mod reads;
 pub mod record;
 

@@ -1,5 +1,6 @@
 // Document 02, [3], for callers in C: the word at the front of a part. include/vougecress.h documents it for its caller.
 #![tactic(auto)]
+
 ghost use Rattle.std.specs.Prelude.{◌≡◌};
 ghost use Rattle.rules.specs.Word.{word_of};
 ghost use Rattle.c_word.specs.Found.{found_from};

@@ -1,6 +1,7 @@
 // Document 02, [4], for callers in C: a list of commands written as a job stream, and a whole stream read as such a list.
 // include/vougecress.h documents both for their caller.
 #![tactic(auto)]
+
 ghost use Rattle.std.specs.Prelude.{◌≡◌};
 ghost use Rattle.rules.specs.Writing.{lists, write_answer, write_bytes, read_all_answer, read_all_lists};
 ghost use Rattle.c_write.specs.Written.{written_from, listed_from};

@@ -1,5 +1,6 @@
 // Document 02, [6], for callers in C: a year on a lent record. include/vougecress.h documents it for its caller.
 #![tactic(auto)]
+
 ghost use Rattle.std.specs.Prelude.{◌≡◌};
 ghost use Rattle.rules.specs.Year.{four_calls};
 ghost use Rattle.chain.specs.Record.{record_of};

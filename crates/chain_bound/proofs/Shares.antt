@@ -17,7 +17,7 @@ use Rattle.rules.proofs.Panels.{sampled}
 use Rattle.chain_bound.specs.Losses.{parts, weight_loss, most_shared}
 use Rattle.chain_bound.proofs.Near.{Near, exactly, times, floor, weaken}
 use Rattle.chain_bound.proofs.Weights.{Tracks, whole, move, floor_most, floor_near}
-use Rattle.chain_bound.proofs.Accepted.{Opened, Outsided, accepted_open, accepted_outside}
+use Rattle.chain_bound.proofs.Accepted.{Opened, accepted_open, accepted_outside}
 
 -- a u beside the exact one, e over q
 record Unit-near (u e c q : ℕ) : Type 0 where

@@ -6,7 +6,7 @@ use mathlib.Core.Path.{◌≡◌, refl, sym, ap, subst, ◌∙◌}
 use mathlib.Core.List.{List, [], ◌∷◌}
 use Prim.Native.Nat.{ℕ, zero, suc, ◌≤◌}
 use contract.Lifetimes.{Lfts}
-use denote.Ref.{Bor}
+use denote.Ref.{Bor, MutBor}
 use lib.ListN.{length}
 use borrow.Author.Tests.{le-ltb}
 use Rattle.rules.specs.Refusals.{Judged, refuse, judged, stays, written}
@@ -40,26 +40,27 @@ use Rattle.chain_bound_c.specs.Lent.{PanelOpened, PanelRenewed, renewal_in, Call
 use Rattle.chain_bound_c.proofs.Records.{Full, read_back, room_again, left_in_lem, full_in, full_open, full_after, full_all, full_renewed}
 
 -- None of the seven asks anything of its caller: every list of calls can be made.
-pub open_asks : (κs : Lfts 4) (w g a lent : Bor (List ℕ)) (start : ℕ) → open-reads.Asked κs (w, (g, (a, (start, (lent, tt)))))
+pub open_asks : (κs : Lfts 4) (w g a : Bor (List ℕ)) (lent : MutBor (List ℕ)) (start : ℕ) → open-reads.Asked κs (w, (g, (a, (start, (lent, tt)))))
 open_asks κs w g a lent start = tt
 
-pub open_outside_asks : (κs : Lfts 5) (w g a sampled lent : Bor (List ℕ)) (start domain : ℕ) →
+pub open_outside_asks : (κs : Lfts 5) (w g a sampled : Bor (List ℕ)) (lent : MutBor (List ℕ)) (start domain : ℕ) →
     open-outside-reads.Asked κs (w, (g, (a, (start, (sampled, (domain, (lent, tt)))))))
 open_outside_asks κs w g a sampled lent start domain = tt
 
 pub quarter_asks : (κs : Lfts 2) (lent p : Bor (List ℕ)) → quarter-reads.Asked κs (lent, (p, tt))
 quarter_asks κs lent p = tt
 
-pub close_asks : (κs : Lfts 2) (lent p : Bor (List ℕ)) → close-reads.Asked κs (lent, (p, tt))
+pub close_asks : (κs : Lfts 2) (lent : MutBor (List ℕ)) (p : Bor (List ℕ)) → close-reads.Asked κs (lent, (p, tt))
 close_asks κs lent p = tt
 
-pub year_asks : (κs : Lfts 6) (lent q₁ q₂ q₃ p buffer : Bor (List ℕ)) → year-reads.Asked κs (lent, (q₁, (q₂, (q₃, (p, (buffer, tt))))))
+pub year_asks : (κs : Lfts 6) (lent : MutBor (List ℕ)) (q₁ q₂ q₃ p : Bor (List ℕ)) (buffer : MutBor (List ℕ)) →
+    year-reads.Asked κs (lent, (q₁, (q₂, (q₃, (p, (buffer, tt))))))
 year_asks κs lent q₁ q₂ q₃ p buffer = tt
 
-pub renew_asks : (κs : Lfts 4) (w g a lent : Bor (List ℕ)) → renew-reads.Asked κs (w, (g, (a, (lent, tt))))
+pub renew_asks : (κs : Lfts 4) (w g a : Bor (List ℕ)) (lent : MutBor (List ℕ)) → renew-reads.Asked κs (w, (g, (a, (lent, tt))))
 renew_asks κs w g a lent = tt
 
-pub renew_outside_asks : (κs : Lfts 5) (w g a sampled lent : Bor (List ℕ)) (domain : ℕ) →
+pub renew_outside_asks : (κs : Lfts 5) (w g a sampled : Bor (List ℕ)) (lent : MutBor (List ℕ)) (domain : ℕ) →
     renew-outside-reads.Asked κs (w, (g, (a, (sampled, (domain, (lent, tt))))))
 renew_outside_asks κs w g a sampled lent domain = tt
 

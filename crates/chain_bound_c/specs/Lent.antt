@@ -4,7 +4,7 @@
 -- it makes of the function's own `ensures`.
 use Rattle.std.specs.Prelude.{ℕ, zero, suc, ◌≡◌, List, [], ◌∷◌, ◌++◌, length, take}
 use contract.Lifetimes.{Lfts}
-use Rattle.std.specs.Borrow.{Bor}
+use Rattle.std.specs.Borrow.{Bor, MutBor}
 use denote.Triple.Clauses.{AtExit}
 use Rattle.rules.specs.Refusals.{judged}
 use Rattle.rules.specs.Chain.{Call}
@@ -29,15 +29,15 @@ use Rattle.c_renew.proofs.renewal.vougecress_renew.Reads as renew-reads
 use Rattle.c_renew.specs.contracts.outside.vougecress_renew_outside as renew-outside-contract
 use Rattle.c_renew.proofs.outside.vougecress_renew_outside.Reads as renew-outside-reads
 
--- `vougecress_open` of the lists w, g and a, of start and of the lent list returned n and left ys in the lent list; `now w` is what w holds.
-pub record OpenMade (w g a lent : Bor (List ℕ)) (start n : ℕ) (ys : List ℕ) : Type 0 where
+-- `vougecress_open` of the lists w, g and a, of start and of the lent list returned n and left ys in the lent list; `w.now` is what w holds.
+pub record OpenMade (w g a : Bor (List ℕ)) (lent : MutBor (List ℕ)) (start n : ℕ) (ys : List ℕ) : Type 0 where
   pub lifetimes : Lfts 4
   pub end : AtExit open-contract.ended lifetimes
   pub leaves : end.1.1.1.1.0.now ≡ ys
   pub learnt : open-reads.Learnt lifetimes (w, (g, (a, (start, (lent, tt))))) n end
 
 -- `vougecress_open_outside` of these, of the list `sampled` and of the outside share returned n and left ys in the lent list.
-pub record OpenOutsideMade (w g a sampled lent : Bor (List ℕ)) (start domain n : ℕ) (ys : List ℕ) : Type 0 where
+pub record OpenOutsideMade (w g a sampled : Bor (List ℕ)) (lent : MutBor (List ℕ)) (start domain n : ℕ) (ys : List ℕ) : Type 0 where
   pub lifetimes : Lfts 5
   pub end : AtExit open-outside-contract.ended lifetimes
   pub leaves : end.1.1.1.1.1.1.0.now ≡ ys
@@ -45,8 +45,8 @@ pub record OpenOutsideMade (w g a sampled lent : Bor (List ℕ)) (start domain n
 
 -- Either of the two, with the panel that it was handed.
 pub data PanelOpened : Panel → ℕ → ℕ → List ℕ → Type 0 where
-  without : {w g a lent : Bor (List ℕ)} {start n : ℕ} {ys : List ℕ} → OpenMade w g a lent start n ys → PanelOpened (plain w.now g.now a.now) start n ys
-  outside : {w g a sampled lent : Bor (List ℕ)} {start domain n : ℕ} {ys : List ℕ} →
+  without : {w g a : Bor (List ℕ)} {lent : MutBor (List ℕ)} {start n : ℕ} {ys : List ℕ} → OpenMade w g a lent start n ys → PanelOpened (plain w.now g.now a.now) start n ys
+  outside : {w g a sampled : Bor (List ℕ)} {lent : MutBor (List ℕ)} {start domain n : ℕ} {ys : List ℕ} →
       OpenOutsideMade w g a sampled lent start domain n ys → PanelOpened (with_domain domain sampled.now w.now g.now a.now) start n ys
 
 -- `vougecress_quarter` of a lent list that holds xs and of the list p returned r
@@ -60,16 +60,16 @@ pub record QuarterMade (xs : List ℕ) (p : Bor (List ℕ)) (r : Figure) : Type 
 -- `vougecress_close` of a lent list that holds xs and of the list p returned r and left ys in the lent list
 pub record CloseMade (xs : List ℕ) (p : Bor (List ℕ)) (r : Figure) (ys : List ℕ) : Type 0 where
   pub lifetimes : Lfts 2
-  pub lent : Bor (List ℕ)
+  pub lent : MutBor (List ℕ)
   pub holds : lent.now ≡ xs
   pub end : AtExit close-contract.ended lifetimes
   pub leaves : end.0.now ≡ ys
   pub learnt : close-reads.Learnt lifetimes (lent, (p, tt)) r end
 
 -- `vougecress_year` of a lent list that holds xs, of the lists q₁ to p and of the lent buffer returned r, and left ys in the list and fs in the buffer
-pub record YearMade (xs : List ℕ) (q₁ q₂ q₃ p buffer : Bor (List ℕ)) (r : Year) (ys fs : List ℕ) : Type 0 where
+pub record YearMade (xs : List ℕ) (q₁ q₂ q₃ p : Bor (List ℕ)) (buffer : MutBor (List ℕ)) (r : Year) (ys fs : List ℕ) : Type 0 where
   pub lifetimes : Lfts 6
-  pub lent : Bor (List ℕ)
+  pub lent : MutBor (List ℕ)
   pub holds : lent.now ≡ xs
   pub end : AtExit year-contract.ended lifetimes
   pub leaves : end.0.now ≡ ys
@@ -79,7 +79,7 @@ pub record YearMade (xs : List ℕ) (q₁ q₂ q₃ p buffer : Bor (List ℕ)) (
 -- `vougecress_renew` of the lists w, g and a and of a lent list that holds xs returned n and left ys in the lent list
 pub record RenewMade (xs : List ℕ) (w g a : Bor (List ℕ)) (n : ℕ) (ys : List ℕ) : Type 0 where
   pub lifetimes : Lfts 4
-  pub lent : Bor (List ℕ)
+  pub lent : MutBor (List ℕ)
   pub holds : lent.now ≡ xs
   pub end : AtExit renew-contract.ended lifetimes
   pub leaves : end.1.1.1.0.now ≡ ys
@@ -88,7 +88,7 @@ pub record RenewMade (xs : List ℕ) (w g a : Bor (List ℕ)) (n : ℕ) (ys : Li
 -- `vougecress_renew_outside` of these, of the list `sampled` and of the outside share returned n and left ys in the lent list
 pub record RenewOutsideMade (xs : List ℕ) (w g a sampled : Bor (List ℕ)) (domain n : ℕ) (ys : List ℕ) : Type 0 where
   pub lifetimes : Lfts 5
-  pub lent : Bor (List ℕ)
+  pub lent : MutBor (List ℕ)
   pub holds : lent.now ≡ xs
   pub end : AtExit renew-outside-contract.ended lifetimes
   pub leaves : end.1.1.1.1.1.0.now ≡ ys
@@ -110,7 +110,7 @@ abbrev pub event_in : Call → Figure → Event
 event_in call f = event_of call (judged f.refusal f.figure)
 
 -- and a year: the figures that the buffer holds, as many as the count says, and the refusal
-abbrev pub year_events : Bor (List ℕ) → List Call → Year → List ℕ → List Event
+abbrev pub year_events : MutBor (List ℕ) → List Call → Year → List ℕ → List Event
 year_events buffer calls r fs = year_told (length buffer.now) calls r.refusal (take r.count fs)
 
 -- Calls made one after the other on a lent list, what they ask, and what they came to.
@@ -120,7 +120,7 @@ pub data CallsMade : List ℕ → List Made → List Event → Type 0 where
       QuarterMade xs p r → CallsMade xs list later → CallsMade xs (Made.call (Call.quarter p.now) ∷ list) (event_in (Call.quarter p.now) r ∷ later)
   close : {xs ys : List ℕ} {p : Bor (List ℕ)} {r : Figure} {list : List Made} {later : List Event} →
       CloseMade xs p r ys → CallsMade ys list later → CallsMade xs (Made.call (Call.close p.now) ∷ list) (event_in (Call.close p.now) r ∷ later)
-  year : {xs ys fs : List ℕ} {q₁ q₂ q₃ p buffer : Bor (List ℕ)} {r : Year} {list : List Made} {later : List Event} →
+  year : {xs ys fs : List ℕ} {q₁ q₂ q₃ p : Bor (List ℕ)} {buffer : MutBor (List ℕ)} {r : Year} {list : List Made} {later : List Event} →
       YearMade xs q₁ q₂ q₃ p buffer r ys fs → CallsMade ys list later →
       CallsMade xs (Made.year (length buffer.now) q₁.now q₂.now q₃.now p.now ∷ list)
       (year_events buffer (four_calls q₁.now q₂.now q₃.now p.now) r fs ++ later)

@@ -1,13 +1,11 @@
 -- Demand 3 for the code: whatever quarter, close, year and renewal calls follow an open that the code accepts, each opening with or without an outside share
 -- and refused calls among them, each comes to what the rules give from the opened record on, and every figure is within the bound of the exact direct index.
 -- By the contracts, calls of the code are a trace of the definitions; the rest is `chain_bound`.
-use mathlib.Core.Path.{◌≡◌, refl, sym, ap, ◌∙◌}
+use mathlib.Core.Path.{◌≡◌, sym, ap, ◌∙◌}
 use mathlib.Core.List.{List, [], ◌∷◌}
 use Prim.Native.Nat.{ℕ}
-use base.Logic.{emp}
 use contract.Lifetimes.{Lfts}
-use denote.Ref.{Bor}
-use borrow.Fn.World.{World, ArgsD}
+use denote.Ref.{Bor, MutBor}
 use Rattle.rules.specs.Refusals.{Judged}
 use Rattle.rules.specs.Chain as rules
 use Rattle.rules.specs.Panel.{Panel, panel_record, panel_answer}
@@ -27,7 +25,7 @@ use Rattle.chain_bound.specs.Trace.{Met, Trace}
 use Rattle.chain_bound.proofs.Joint.{call_met, renewal_met, year_met}
 use Rattle.chain_bound.proofs.Demand3.{demand3_trace}
 use Rattle.chain_year.specs.Run.{year_with}
-use Rattle.chain_year.specs.contracts.year as year-contract
+use Rattle.chain_year.proofs.year.Reads as year-reads
 use Rattle.chain_renew.proofs.renew.Reads as renew-reads
 use Rattle.chain_renew.proofs.renew_outside.Reads as renew-outside-reads
 use Rattle.chain_bound_code.specs.Calls.{PanelOpened, PanelRenewed, CallsMade}
@@ -46,9 +44,9 @@ quarter_asks κs c p = tt
 pub close_asks : (κs : Lfts 1) (c : Chain) (p : Bor (List ℕ)) → close-reads.Asked κs (c, (p, tt))
 close_asks κs c p = tt
 
-pub year_asks : (w : World) (κs : Lfts 6) (a : ArgsD year-contract.signature κs) →
-    (year-contract.clauses w.𝓛 w.𝓜.mem w.𝓡.run κs a).requires tt ≡ emp w.𝓤
-year_asks w κs a = refl
+pub year_asks : (κs : Lfts 6) (lent : MutBor Chain) (q₁ q₂ q₃ p : Bor (List ℕ)) (buffer : MutBor (List ℕ)) →
+    year-reads.Asked κs (lent, (q₁, (q₂, (q₃, (p, (buffer, tt))))))
+year_asks κs lent q₁ q₂ q₃ p buffer = tt
 
 pub renew_asks : (κs : Lfts 3) (c : Chain) (w g a : Bor (List ℕ)) → renew-reads.Asked κs (c, (w, (g, (a, tt))))
 renew_asks κs c w g a = tt

@@ -1,10 +1,10 @@
--- `Learnt` is what the code gives, and no hypothesis: of either open, quarter and close, called by name, a caller knows it by the function's own theorem.
--- The year is proved by hand; its theorem is of the clauses from which `YearReads` reads what a caller learns.
+-- `Learnt` is what the code gives, and no hypothesis: of either open, quarter, close, year and either renewal, called by name, a caller knows it by the
+-- function's own theorem.
 use mathlib.Core.Path.{◌≡◌}
 use mathlib.Core.List.{List}
 use Prim.Native.Nat.{ℕ}
-use mir.Syntax.{Name}
-use prog.Routine.{Env}
+use prog.Routine.{Env, Callee}
+use prog.Wired.{Wired}
 use borrow.Fn.Kind.{ParamKind, ResultKind}
 use borrow.Fn.Kinds.{In, Out}
 use borrow.Fn.Plain.{Known}
@@ -34,38 +34,47 @@ use Rattle.chain_renew.proofs.renew_outside.Kinds as renew-outside-kinds
 use Rattle.chain_renew.proofs.renew_outside.Reads as renew-outside-reads
 use Rattle.chain_renew.proofs.renew_outside.Met as renew-outside-theorem
 use Rattle.chain_renew.proofs.renew_outside.Symbol as renew-outside-symbol
-use Rattle.chain_year.proofs.year.Statement as year-statement
+use Rattle.chain_year.proofs.year.Kinds as year-kinds
+use Rattle.chain_year.proofs.year.Reads as year-reads
 use Rattle.chain_year.proofs.year.Met as year-theorem
+use Rattle.chain_year.proofs.year.Symbol as year-symbol
 
--- in any model w of the machine, and any environment γ in which the function's name means its code
+-- in any model w of the machine in which the function and what it calls mean their code, and any environment γ in which its name means the same
 module _ (w : World) (γ : Env) where
-  abbrev KnownBy : (n : ℕ) (ps : List (ParamKind n)) (r : ResultKind n) → In n ps → Out n ps r → Name → Type 1
+  abbrev KnownBy : (n : ℕ) (ps : List (ParamKind n)) (r : ResultKind n) → In n ps → Out n ps r → Callee → Type 1
   KnownBy = Known w.𝓛 (Over w.𝓛 w.𝓜 w.𝓡 γ)
 
-  pub open_known : γ open-symbol.name ≡ open-symbol.routine → KnownBy 3 open-kinds.ps open-kinds.r open-reads.Asked open-reads.Learnt open-symbol.name
-  open_known same = open-reads.known w γ open-symbol.name open-symbol.routine same (open-theorem.met w.𝓤 w.𝓛 w.𝓜 w.𝓡)
+  pub open_known : Wired w.𝓡.env open-symbol.code → γ open-symbol.name ≡ w.𝓡.env open-symbol.name →
+      KnownBy 3 open-kinds.ps open-kinds.r open-reads.Asked open-reads.Learnt open-symbol.name
+  open_known wired same =
+      open-reads.known w γ open-symbol.name (w.𝓡.env open-symbol.name) same (open-theorem.met w.𝓤 w.𝓛 w.𝓜 w.𝓡 wired)
 
-  pub open_outside_known : γ open-outside-symbol.name ≡ open-outside-symbol.routine →
+  pub open_outside_known : Wired w.𝓡.env open-outside-symbol.code → γ open-outside-symbol.name ≡ w.𝓡.env open-outside-symbol.name →
       KnownBy 4 open-outside-kinds.ps open-outside-kinds.r open-outside-reads.Asked open-outside-reads.Learnt open-outside-symbol.name
-  open_outside_known same =
-      open-outside-reads.known w γ open-outside-symbol.name open-outside-symbol.routine same (open-outside-theorem.met w.𝓤 w.𝓛 w.𝓜 w.𝓡)
+  open_outside_known wired same =
+      open-outside-reads.known w γ open-outside-symbol.name (w.𝓡.env open-outside-symbol.name) same (open-outside-theorem.met w.𝓤 w.𝓛 w.𝓜 w.𝓡 wired)
 
-  pub quarter_known : γ quarter-symbol.name ≡ quarter-symbol.routine →
+  pub quarter_known : Wired w.𝓡.env quarter-symbol.code → γ quarter-symbol.name ≡ w.𝓡.env quarter-symbol.name →
       KnownBy 1 quarter-kinds.ps quarter-kinds.r quarter-reads.Asked quarter-reads.Learnt quarter-symbol.name
-  quarter_known same = quarter-reads.known w γ quarter-symbol.name quarter-symbol.routine same (quarter-theorem.met w.𝓤 w.𝓛 w.𝓜 w.𝓡)
+  quarter_known wired same =
+      quarter-reads.known w γ quarter-symbol.name (w.𝓡.env quarter-symbol.name) same (quarter-theorem.met w.𝓤 w.𝓛 w.𝓜 w.𝓡 wired)
 
-  pub close_known : γ close-symbol.name ≡ close-symbol.routine →
+  pub close_known : Wired w.𝓡.env close-symbol.code → γ close-symbol.name ≡ w.𝓡.env close-symbol.name →
       KnownBy 1 close-kinds.ps close-kinds.r close-reads.Asked close-reads.Learnt close-symbol.name
-  close_known same = close-reads.known w γ close-symbol.name close-symbol.routine same (close-theorem.met w.𝓤 w.𝓛 w.𝓜 w.𝓡)
+  close_known wired same =
+      close-reads.known w γ close-symbol.name (w.𝓡.env close-symbol.name) same (close-theorem.met w.𝓤 w.𝓛 w.𝓜 w.𝓡 wired)
 
-  pub renew_known : γ renew-symbol.name ≡ renew-symbol.routine →
+  pub year_known : Wired w.𝓡.env year-symbol.code → γ year-symbol.name ≡ w.𝓡.env year-symbol.name →
+      KnownBy 6 year-kinds.ps year-kinds.r year-reads.Asked year-reads.Learnt year-symbol.name
+  year_known wired same =
+      year-reads.known w γ year-symbol.name (w.𝓡.env year-symbol.name) same (year-theorem.met w.𝓤 w.𝓛 w.𝓜 w.𝓡 wired)
+
+  pub renew_known : Wired w.𝓡.env renew-symbol.code → γ renew-symbol.name ≡ w.𝓡.env renew-symbol.name →
       KnownBy 3 renew-kinds.ps renew-kinds.r renew-reads.Asked renew-reads.Learnt renew-symbol.name
-  renew_known same = renew-reads.known w γ renew-symbol.name renew-symbol.routine same (renew-theorem.met w.𝓤 w.𝓛 w.𝓜 w.𝓡)
+  renew_known wired same =
+      renew-reads.known w γ renew-symbol.name (w.𝓡.env renew-symbol.name) same (renew-theorem.met w.𝓤 w.𝓛 w.𝓜 w.𝓡 wired)
 
-  pub renew_outside_known : γ renew-outside-symbol.name ≡ renew-outside-symbol.routine →
+  pub renew_outside_known : Wired w.𝓡.env renew-outside-symbol.code → γ renew-outside-symbol.name ≡ w.𝓡.env renew-outside-symbol.name →
       KnownBy 4 renew-outside-kinds.ps renew-outside-kinds.r renew-outside-reads.Asked renew-outside-reads.Learnt renew-outside-symbol.name
-  renew_outside_known same =
-      renew-outside-reads.known w γ renew-outside-symbol.name renew-outside-symbol.routine same (renew-outside-theorem.met w.𝓤 w.𝓛 w.𝓜 w.𝓡)
-
-pub year_known : {M : Type 1} → year-statement.statement M
-year_known = year-theorem.met
+  renew_outside_known wired same =
+      renew-outside-reads.known w γ renew-outside-symbol.name (w.𝓡.env renew-outside-symbol.name) same (renew-outside-theorem.met w.𝓤 w.𝓛 w.𝓜 w.𝓡 wired)

@@ -4,7 +4,7 @@
 -- No line here repeats a contract.
 use Rattle.std.specs.Prelude.{ℕ, ◌≡◌, List, [], ◌∷◌, ◌++◌, length, take}
 use contract.Lifetimes.{Lfts}
-use Rattle.std.specs.Borrow.{Bor}
+use Rattle.std.specs.Borrow.{Bor, MutBor}
 use denote.Triple.Clauses.{AtExit}
 use Rattle.refusals.specs.Number.{verdict_of}
 use Rattle.rules.specs.Chain.{Call}
@@ -27,13 +27,13 @@ use Rattle.chain_open.specs.contracts.open_outside as open-outside-contract
 use Rattle.chain_open.proofs.open_outside.Reads as open-outside-reads
 use Rattle.chain_year.specs.declared.Came.{Came}
 use Rattle.chain_year.specs.contracts.year as year-contract
+use Rattle.chain_year.proofs.year.Reads as year-reads
 use Rattle.chain_renew.specs.contracts.renew as renew-contract
 use Rattle.chain_renew.proofs.renew.Reads as renew-reads
 use Rattle.chain_renew.specs.contracts.renew_outside as renew-outside-contract
 use Rattle.chain_renew.proofs.renew_outside.Reads as renew-outside-reads
-use Rattle.chain_bound_code.specs.YearReads as year-reads
 
--- `chain_open::open` of the slices w, g and a and of start returned o; `now w` is what w holds.
+-- `chain_open::open` of the slices w, g and a and of start returned o; `w.now` is what w holds.
 pub record OpenMade (w g a : Bor (List ℕ)) (start : ℕ) (o : Opened) : Type 0 where
   pub lifetimes : Lfts 3
   pub end : AtExit open-contract.ended lifetimes
@@ -82,9 +82,9 @@ pub record CloseMade (c : Chain) (p : Bor (List ℕ)) (r : Answered) : Type 0 wh
   pub learnt : close-reads.Learnt lifetimes (c, (p, tt)) r end
 
 -- `chain_year::year` of a lent record that holds c, the slices q₁ to p and the lent buffer returned r, and left d in the record and fs in the buffer
-pub record YearMade (c : Chain) (q₁ q₂ q₃ p buffer : Bor (List ℕ)) (r : Came) (d : Chain) (fs : List ℕ) : Type 0 where
+pub record YearMade (c : Chain) (q₁ q₂ q₃ p : Bor (List ℕ)) (buffer : MutBor (List ℕ)) (r : Came) (d : Chain) (fs : List ℕ) : Type 0 where
   pub lifetimes : Lfts 6
-  pub lent : Bor Chain
+  pub lent : MutBor Chain
   pub holds : lent.now ≡ c
   pub end : AtExit year-contract.ended lifetimes
   pub leaves : end.0.now ≡ d
@@ -92,7 +92,7 @@ pub record YearMade (c : Chain) (q₁ q₂ q₃ p buffer : Bor (List ℕ)) (r : 
   pub learnt : year-reads.Learnt lifetimes (lent, (q₁, (q₂, (q₃, (p, (buffer, tt)))))) r end
 
 -- what a year came to, as its caller reads it off the answer and the buffer
-abbrev pub year_events : Bor (List ℕ) → List Call → Came → List ℕ → List Event
+abbrev pub year_events : MutBor (List ℕ) → List Call → Came → List ℕ → List Event
 year_events buffer calls r fs = year_told (length buffer.now) calls (verdict_of r.verdict) (take r.count fs)
 
 -- Calls made one after the other from a record, what they ask, and what they came to.
@@ -104,7 +104,7 @@ pub data CallsMade : Chain → List Made → List Event → Type 0 where
   close : {c : Chain} {p : Bor (List ℕ)} {r : Answered} {list : List Made} {later : List Event} →
       CloseMade c p r → CallsMade r.chain list later →
       CallsMade c (Made.call (Call.close p.now) ∷ list) (event_of (Call.close p.now) (answer_from r.answer) ∷ later)
-  year : {c d : Chain} {q₁ q₂ q₃ p buffer : Bor (List ℕ)} {r : Came} {fs : List ℕ} {list : List Made} {later : List Event} →
+  year : {c d : Chain} {q₁ q₂ q₃ p : Bor (List ℕ)} {buffer : MutBor (List ℕ)} {r : Came} {fs : List ℕ} {list : List Made} {later : List Event} →
       YearMade c q₁ q₂ q₃ p buffer r d fs → CallsMade d list later →
       CallsMade c (Made.year (length buffer.now) q₁.now q₂.now q₃.now p.now ∷ list)
       (year_events buffer (four_calls q₁.now q₂.now q₃.now p.now) r fs ++ later)

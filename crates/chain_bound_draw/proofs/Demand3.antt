@@ -4,7 +4,7 @@ use mathlib.Core.Path.{◌≡◌, sym, ap, subst, ◌∙◌}
 use mathlib.Core.List.{List}
 use Prim.Native.Nat.{ℕ}
 use contract.Lifetimes.{Lfts}
-use denote.Ref.{Bor}
+use denote.Ref.{Bor, MutBor}
 use lib.ListN.{length, take, drop}
 use lib.Seq.{take_at}
 use Rattle.rules.specs.Refusals.{written}
@@ -40,12 +40,12 @@ demand3_handed ws w g a index o handed opened accepted list given follow =
 
 -- A draw asks nothing of its caller.
 pub draw_asks :
-    (κs : Lfts 5) (method : Method) (ns ts rs : Bor (List ℕ)) (z start : ℕ) (numbers weights : Bor (List ℕ))
+    (κs : Lfts 5) (method : Method) (ns ts rs : Bor (List ℕ)) (z start : ℕ) (numbers weights : MutBor (List ℕ))
     → draw-reads.Asked κs (method, (ns, (ts, (rs, (z, (start, (numbers, (weights, tt))))))))
 draw_asks κs method ns ts rs z start numbers weights = tt
 
 -- a draw that answered n and x
-module _ (method : Method) (ns ts rs : Bor (List ℕ)) (z start : ℕ) (numbers weights : Bor (List ℕ)) (r : Answer) (ws : List ℕ)
+module _ (method : Method) (ns ts rs : Bor (List ℕ)) (z start : ℕ) (numbers weights : MutBor (List ℕ)) (r : Answer) (ws : List ℕ)
     (made : DrawMade method ns ts rs z start numbers weights r ws) (n x : ℕ) (drawn : r ≡ Answers.Drawn n x) where
   abbrev f : Frame
   f = frame ns.now ts.now rs.now

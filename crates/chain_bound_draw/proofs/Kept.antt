@@ -2,7 +2,7 @@
 use mathlib.Core.Path.{◌≡◌, sym, ap, ◌∙◌}
 use mathlib.Core.List.{List}
 use Prim.Native.Nat.{ℕ}
-use denote.Ref.{Bor}
+use denote.Ref.{Bor, MutBor}
 use lib.ListN.{length, take, drop}
 use lib.Seq.{take_at}
 use Rattle.rules.specs.Refusals.{written}
@@ -24,7 +24,7 @@ use Rattle.draw.proofs.Intended.{kept_weights_lem}
 use Rattle.chain_bound_draw.specs.Kept.{KeptMade, kept_weights}
 use Rattle.chain_bound_draw.proofs.Demand3.{Covered, demand3_handed}
 
-module _ (method : Method) (ns ts rs : Bor (List ℕ)) (z start threshold : ℕ) (first second numbers weights : Bor (List ℕ)) (r : Answer) (ws : List ℕ)
+module _ (method : Method) (ns ts rs : Bor (List ℕ)) (z start threshold : ℕ) (first second : Bor (List ℕ)) (numbers weights : MutBor (List ℕ)) (r : Answer) (ws : List ℕ)
     (made : KeptMade method ns ts rs z start threshold first second numbers weights r ws) (n x : ℕ) (drawn : r ≡ Answers.Drawn n x) where
   abbrev f : Frame
   f = frame ns.now ts.now rs.now

@@ -2,8 +2,8 @@
 use mathlib.Core.Path.{◌≡◌}
 use mathlib.Core.List.{List}
 use Prim.Native.Nat.{ℕ}
-use mir.Syntax.{Name}
-use prog.Routine.{Env}
+use prog.Routine.{Env, Callee}
+use prog.Wired.{Wired}
 use borrow.Fn.Kind.{ParamKind, ResultKind}
 use borrow.Fn.Kinds.{In, Out}
 use borrow.Fn.Plain.{Known}
@@ -14,10 +14,12 @@ use Rattle.draw.proofs.draw_by.Reads as draw-reads
 use Rattle.draw.proofs.draw_by.Met as draw-theorem
 use Rattle.draw.proofs.draw_by.Symbol as draw-symbol
 
--- in any model w of the machine, and any environment γ in which the function's name means its code
+-- in any model w of the machine in which the function and what it calls mean their code, and any environment γ in which its name means the same
 module _ (w : World) (γ : Env) where
-  abbrev KnownBy : (n : ℕ) (ps : List (ParamKind n)) (r : ResultKind n) → In n ps → Out n ps r → Name → Type 1
+  abbrev KnownBy : (n : ℕ) (ps : List (ParamKind n)) (r : ResultKind n) → In n ps → Out n ps r → Callee → Type 1
   KnownBy = Known w.𝓛 (Over w.𝓛 w.𝓜 w.𝓡 γ)
 
-  pub draw_known : γ draw-symbol.name ≡ draw-symbol.routine → KnownBy 5 draw-kinds.ps draw-kinds.r draw-reads.Asked draw-reads.Learnt draw-symbol.name
-  draw_known same = draw-reads.known w γ draw-symbol.name draw-symbol.routine same (draw-theorem.met w.𝓤 w.𝓛 w.𝓜 w.𝓡)
+  pub draw_known : Wired w.𝓡.env draw-symbol.code → γ draw-symbol.name ≡ w.𝓡.env draw-symbol.name →
+      KnownBy 5 draw-kinds.ps draw-kinds.r draw-reads.Asked draw-reads.Learnt draw-symbol.name
+  draw_known wired same =
+      draw-reads.known w γ draw-symbol.name (w.𝓡.env draw-symbol.name) same (draw-theorem.met w.𝓤 w.𝓛 w.𝓜 w.𝓡 wired)

@@ -2,7 +2,7 @@
 -- `Learnt` of the module `Reads` that it makes of the function's own `ensures`.
 use Rattle.std.specs.Prelude.{ℕ, ◌≡◌, List}
 use contract.Lifetimes.{Lfts}
-use Rattle.std.specs.Borrow.{Bor}
+use Rattle.std.specs.Borrow.{Bor, MutBor}
 use denote.Triple.Clauses.{AtExit}
 use Rattle.rules.specs.TakeAll.{frame, take_all_group}
 use Rattle.rules.specs.Draw.{panel_weights}
@@ -12,8 +12,8 @@ use Rattle.draw.specs.declared.Answer.{Answer}
 use Rattle.draw.specs.contracts.draw_by as draw-contract
 use Rattle.draw.proofs.draw_by.Reads as draw-reads
 
--- `draw_by` of a method, the lists of a frame, z, start and two buffers returned r and left ws in the buffer of the weights; `now ts` is what ts holds.
-pub record DrawMade (method : Method) (ns ts rs : Bor (List ℕ)) (z start : ℕ) (numbers weights : Bor (List ℕ)) (r : Answer) (ws : List ℕ) : Type 0 where
+-- `draw_by` of a method, the lists of a frame, z, start and two buffers returned r and left ws in the buffer of the weights; `ts.now` is what ts holds.
+pub record DrawMade (method : Method) (ns ts rs : Bor (List ℕ)) (z start : ℕ) (numbers weights : MutBor (List ℕ)) (r : Answer) (ws : List ℕ) : Type 0 where
   pub lifetimes : Lfts 5
   pub end : AtExit draw-contract.ended lifetimes
   pub leaves : end.1.1.1.1.1.1.1.0.now ≡ ws

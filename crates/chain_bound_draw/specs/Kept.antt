@@ -1,7 +1,7 @@
 -- Document 02, [9]: "The chain is judged by the enlarged group's weights". A call of `draw::draw_kept`, as `Drawing` has one of `draw_by`.
 use Rattle.std.specs.Prelude.{ℕ, ◌≡◌, List}
 use contract.Lifetimes.{Lfts}
-use Rattle.std.specs.Borrow.{Bor}
+use Rattle.std.specs.Borrow.{Bor, MutBor}
 use denote.Triple.Clauses.{AtExit}
 use Rattle.rules.specs.TakeAll.{frame}
 use Rattle.rules.specs.Kept.{keeping, enlarged_group}
@@ -13,7 +13,7 @@ use Rattle.draw.specs.contracts.draw_kept as kept-contract
 use Rattle.draw.proofs.draw_kept.Reads as kept-reads
 
 -- `draw_kept` with a threshold and two lists returned r and left ws in the buffer of the weights
-pub record KeptMade (method : Method) (ns ts rs : Bor (List ℕ)) (z start threshold : ℕ) (first second numbers weights : Bor (List ℕ)) (r : Answer) (ws : List ℕ) : Type 0 where
+pub record KeptMade (method : Method) (ns ts rs : Bor (List ℕ)) (z start threshold : ℕ) (first second : Bor (List ℕ)) (numbers weights : MutBor (List ℕ)) (r : Answer) (ws : List ℕ) : Type 0 where
   pub lifetimes : Lfts 7
   pub end : AtExit kept-contract.ended lifetimes
   pub leaves : end.1.1.1.1.1.1.1.1.1.1.0.now ≡ ws

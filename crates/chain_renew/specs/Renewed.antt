@@ -1,5 +1,4 @@
 -- Document 02, [11]: what a renewal makes of what the opening of its new weights answered, and the code's answers as those of `rules`.
-use Rattle.std.specs.Prelude.{ℕ}
 use Rattle.refusals.specs.declared.Refusal.{Refusal}
 use Rattle.rules.specs.Refusals.{Judged}
 use Rattle.rules.specs.Chain as rules

@@ -1,5 +1,6 @@
 // Document 02, [11]: a renewal, which opens new weights from a chain record: its C is the start index, its links go onward, its closes begin at 0.
 #![tactic(auto)]
+
 ghost use Rattle.std.specs.Prelude.{◌≡◌};
 ghost use Rattle.refusals.specs.declared.Refusal.TheVariants.{State};
 ghost use Rattle.rules.specs.Panel.{plain, with_domain};

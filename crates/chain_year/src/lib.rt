@@ -1,6 +1,7 @@
 // Document 02, [6]: a year in one call, the four calls made one by one. A run holds what the year has come to; each call goes on from it.
-// `year_of` does it by value; `year` lends the record and is proved by hand, since a reference to a struct is not covered.
+// `year_of` does it by value; `year` lends the record.
 #![tactic(auto)]
+
 ghost use Rattle.std.specs.Prelude.{◌≡◌, ◌<◌, length};
 ghost use Rattle.rules.specs.Year.{four_calls, year_of};
 ghost use Rattle.chain.specs.Record.{call_by, record_of};

@@ -42,16 +42,21 @@ fn read_stream<R: Read>(input: &mut R, bytes: &mut [u8]) -> io::Result<usize>
     Ok(done)
 }
 
-// Tells a failure on standard error, without the number that std puts behind the system's reason. Where nobody can be told, nothing is.
+// The system's reason, without the number that std puts behind it.
+fn reason_of(said: &str) -> &str {
+    match said.split_once(" (os error ") {
+        Some((reason, _)) => reason,
+        None => said,
+    }
+}
+
+// Tells a failure on standard error. Where nobody can be told, nothing is.
 fn tell(rt: &HostRuntime, what: &str, why: io::Error) {
     let Ok(said) = format!(in rt.alloc(); "{why}") else {
         let _ = eprintln!(rt; "chainrun: cannot {what}: {why}");
         return;
     };
-    let reason = match said.as_str().split_once(" (os error ") {
-        Some((before, _)) => before,
-        None => said.as_str(),
-    };
+    let reason = reason_of(said.as_str());
     let _ = eprintln!(rt; "chainrun: cannot {what}: {reason}");
 }
 

@@ -8,7 +8,7 @@ use Rattle.rules.specs.Lists.{rising}
 use Rattle.rules.specs.Refusals.{refuse, ◌then◌}
 use Rattle.rules.specs.TakeAll.{Frame, Group, take_all_group}
 use Rattle.rules.specs.Kept.{Keeping, bad_list, bad_keeping, keeping_refusal, enlarged_group}
-use Rattle.rules.specs.Draw.{Method, Drawn, panel_numbers, panel_weights, frame_refusal, draw_refusal, draw_answer, draw_numbers_by, draw_weights_by, kept_draw_refusal, kept_draw_answer, kept_draw_numbers, kept_draw_weights}
+use Rattle.rules.specs.Draw.{Method, panel_numbers, panel_weights, draw_refusal, draw_answer, draw_numbers_by, draw_weights_by, kept_draw_refusal, kept_draw_answer, kept_draw_numbers, kept_draw_weights}
 use Rattle.rules.proofs.Refusals.{then_zero, then_none, judged_same, written_same}
 use Rattle.frame.proofs.Accepted.{accepted}
 use Rattle.group_kept.proofs.Enlarged.{no_lists, enlarged_base}

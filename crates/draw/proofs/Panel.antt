@@ -6,7 +6,6 @@ use Prim.Native.Nat.{ℕ, ◌≤◌, ◌<◌}
 use native.Mathlib.Omega.{arith}
 use lib.ListN.{length, get_or}
 use borrow.Author.Tests.{eq-eqb}
-use Rattle.rules.specs.Refusals.{written}
 use Rattle.rules.specs.Tests.{◌or◌}
 use Rattle.rules.specs.Selection.{count, listed}
 use Rattle.rules.specs.TakeAll.{Frame, base_weight, Group as RulesGroup}

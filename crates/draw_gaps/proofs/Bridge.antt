@@ -10,10 +10,10 @@ use lib.ListN.{length, get_or}
 use lib.Dec.{lit<}
 use borrow.Author.Tests.{eq-eqb, ne_eqb, lt-ltb, le-ltb, not-true}
 use Rattle.rules.specs.Limits.{random_range}
-use Rattle.rules.specs.Tests.{◌or◌, ◌and◌}
+use Rattle.rules.specs.Tests.{◌or◌}
 use Rattle.rules.specs.Selection.{count, by_key, firsts}
 use Rattle.rules.specs.TakeAll.{Frame, turnover, base_weight, Group as RulesGroup}
-use Rattle.rules.specs.Draw.{shifted, key_numerator, key_denominator, fraction_below, key_below, not_take_all, sampled_by, drawn_by}
+use Rattle.rules.specs.Draw.{key_numerator, key_denominator, fraction_below, key_below, not_take_all, sampled_by, drawn_by}
 use Rattle.rules.proofs.Tests.{by_test, by_order}
 use Rattle.frame.proofs.Accepted.{Accepted}
 use Rattle.selection.proofs.Sums.{sum_same, count_both}

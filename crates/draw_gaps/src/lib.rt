@@ -2,6 +2,7 @@
 // so that a rotation computes it once. A unit of the take-all group has no key, and the gap 0. That keys over these gaps order the units as the definitions'
 // keys do is shown here once (proofs/Bridge.antt).
 #![tactic(auto)]
+
 ghost use Rattle.std.specs.Prelude.{◌≤◌, length};
 ghost use Rattle.rules.specs.Limits.{most_turnover, most_panel};
 ghost use Rattle.rules.specs.Lists.{sum};

@@ -7,7 +7,7 @@ use native.Mathlib.Omega.{arith}
 use lib.ListN.{length, get_or, take}
 use lib.Seq.{length-take-le, get_or-take}
 use lib.Dec.{eqb, ltb}
-use Rattle.rules.specs.Tests.{◌or◌, ◌and◌}
+use Rattle.rules.specs.Tests.{◌or◌}
 use Rattle.rules.specs.Selection.{count, rank, firsts, listed}
 use Rattle.rules.specs.TakeAll.{base_weight}
 use Rattle.rules.proofs.Tests.{and_left, by_test, by_order}

@@ -19,6 +19,7 @@ use limits::MOST_PANEL;
 const SAMPLED: u8 = 2;
 
 // W of unit i: X for a sampled unit, n × its turnover for a take-all unit, and its turnover under cut-off.
+#[tactic(auto, unfolding(rules::specs::TakeAll::base_weight, group::specs::Group::marked))]
 fn weight_of(turnovers: &[u64], marks: &[u8], s: Setting, i: usize) -> u64
     requires { Weighable turnovers.now marks.now s × (i < length turnovers.now) }
     ensures { result ≡ weight_by turnovers.now marks.now s i }

@@ -1,6 +1,7 @@
 // The frame's tests (document 01, "Frame and weights", refusals 1 to 5). A frame is three lent lists: unit numbers, turnovers and
 // random numbers. Each test is a function of its own, one pass over one list; `judge` asks them in the order of the refusals.
 #![tactic(auto)]
+
 ghost use Rattle.std.specs.Prelude.{◌≡◌};
 ghost use Rattle.rules.specs.Lists.{rising, any_of};
 ghost use Rattle.rules.specs.TakeAll.{frame, bad_count, bad_turnovers, bad_size};

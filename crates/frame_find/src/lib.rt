@@ -1,5 +1,6 @@
 // Where a number stands in a rising list: found by halves.
 #![tactic(auto)]
+
 ghost use Rattle.std.specs.Prelude.{◌≡◌, true};
 ghost use Rattle.rules.specs.Lists.{rising};
 ghost use Rattle.frame_find.specs.Found.{Found};

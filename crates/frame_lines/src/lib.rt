@@ -1,6 +1,7 @@
 // Document 02, [14]: a register of comma lines, imported into a lent list of units or into three lent lists.
 // All lines are judged before the first write.
 #![tactic(auto)]
+
 ghost use Rattle.std.specs.Prelude.{◌≡◌, ◌≤◌, length};
 ghost use Rattle.rules.specs.Refusals.{written};
 ghost use Rattle.rules.specs.Register.{Row as RulesRow, line_at, row_at, imported, import_count, column_of, shorter, room_of, imported_numbers, imported_turnovers, imported_randoms};

@@ -1,6 +1,7 @@
 // The take-all group of a frame (document 01, "Frame and weights"; 001, section 2.3): its size q, n, the rest turnover X, and a mark for each unit
 // that tells whether it is in the group.
 #![tactic(auto)]
+
 ghost use Rattle.std.specs.Prelude.{◌≡◌, ◌≤◌, length};
 ghost use Rattle.rules.specs.Refusals.{written};
 ghost use Rattle.rules.specs.TakeAll.{take_all_group};

@@ -1,8 +1,8 @@
 -- The candidates of two lists: of none, of one in either place, and gathered units in order.
-use mathlib.Core.Path.{◌≡◌, refl, sym, ap, ◌∙◌, subst}
-use mathlib.Core.Bool.{Bool, true, false, not}
+use mathlib.Core.Path.{◌≡◌, refl, sym, ap, ◌∙◌}
+use mathlib.Core.Bool.{Bool, false}
 use mathlib.Core.List.{List, [], ◌++◌}
-use Prim.Native.Nat.{ℕ, ◌≤◌, ◌<◌}
+use Prim.Native.Nat.{ℕ, ◌<◌}
 use native.Mathlib.Nat.{not-suc-le-zero}
 use native.Mathlib.Omega.{arith}
 use lib.Dec.{eqb}
@@ -13,7 +13,6 @@ use Rattle.rules.specs.Selection.{count, rank}
 use Rattle.rules.specs.TakeAll.{Group, larger}
 use Rattle.rules.specs.Kept.{Keeping, keeping, in_previous, near_border, candidate}
 use Rattle.rules.proofs.Tests.{and_off, and_second, or_none}
-use Rattle.selection.specs.Ranked.{Ranked}
 use Rattle.selection.proofs.Sums.{sum_same}
 use Rattle.order.specs.InOrder.{InOrder}
 use Rattle.order.proofs.Ranks.{elem_count}

@@ -3,22 +3,21 @@
 use mathlib.Core.Path.{◌≡◌, refl, sym, ap, ◌∙◌}
 use mathlib.Core.Bool.{Bool, true, false, not}
 use mathlib.Core.List.{List, [], ◌∷◌, ◌++◌}
-use Prim.Native.Nat.{ℕ, suc, ◌+◌, ◌*◌, ◌≤◌, ◌<◌}
+use Prim.Native.Nat.{ℕ, ◌+◌, ◌*◌, ◌≤◌, ◌<◌}
 use native.Mathlib.Omega.{arith}
 use native.Mathlib.Numerals.{add-one}
-use lib.Dec.{ltb, leb, eqb}
+use lib.Dec.{leb, eqb}
 use lib.ListN.{length, get_or, take, length-take}
 use lib.Seq.{take-suc, get_or-take}
-use borrow.Author.Tests.{lt-ltb, le-ltb, eq-eqb, ne_eqb, eqb-true, eqb-false}
+use borrow.Author.Tests.{lt-ltb, eq-eqb, ne_eqb, eqb-true, eqb-false}
 use Rattle.rules.specs.Limits.{threshold_scale}
 use Rattle.rules.specs.Tests.{◌or◌, ◌and◌}
 use Rattle.rules.specs.Lists.{rising, elem}
 use Rattle.rules.specs.TakeAll.{turnover, Group}
 use Rattle.rules.specs.Kept.{Keeping, keeping, in_previous, near_border, candidate}
-use Rattle.rules.proofs.Tests.{and_on, and_off, and_second, or_on, or_off, or_second, or_none, by_test, by_order, not_both, cannot_hold}
+use Rattle.rules.proofs.Tests.{and_on, and_off, and_second, or_on, or_off, or_second, or_none, by_test, by_order, not_both}
 use Rattle.rules.proofs.Lists.{rising_below, elem_place, elem_nowhere, elem_last}
 use Rattle.frame_find.specs.Found.{Found}
-use Rattle.order.specs.InOrder.{Below, Distinct}
 use Rattle.order.proofs.Each.{Each, each_append, each_one}
 use Rattle.order.proofs.Marked.{distinct_last}
 use Rattle.group.specs.Group.{marked, rules_group}

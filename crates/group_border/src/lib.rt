@@ -1,6 +1,7 @@
 // Who may be kept (document 02, [9]): units of the sampled stratum that stand in a previous list and are near the border, the largest first. The lists name
 // at most 200 units, so each is sought in the frame, and no pass over the frame is made.
 #![tactic(auto)]
+
 ghost use Rattle.std.specs.Prelude.{◌≡◌, true, [], ◌+◌, ◌*◌, ◌≤◌, leb, length, take};
 ghost use Rattle.rules.specs.Limits.{most_turnover, most_panel, threshold_scale};
 ghost use Rattle.rules.specs.Lists.{rising};

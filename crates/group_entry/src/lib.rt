@@ -1,5 +1,6 @@
 // Take-all as an entry of its own (document 01, "Frame and weights"; 001, section 2.3): its refusals, its answer, and a mark for each unit.
 #![tactic(auto)]
+
 ghost use Rattle.std.specs.Prelude.{◌≡◌};
 ghost use Rattle.rules.specs.TakeAll.{take_all_refusal, take_all_answer, take_all_marks};
 ghost use Rattle.refusals.specs.Number.{verdict_of};

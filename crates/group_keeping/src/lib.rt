@@ -1,5 +1,6 @@
 // The parameters of document 02, [9], as refusal 30 judges them: a threshold γ in thousandths, and the take-all lists of up to two previous draws.
 #![tactic(auto)]
+
 ghost use Rattle.std.specs.Prelude.{◌≡◌};
 ghost use Rattle.rules.specs.Kept.{keeping, bad_list, bad_keeping};
 

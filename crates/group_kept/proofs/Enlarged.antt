@@ -1,19 +1,19 @@
 -- Document 02, [9]: THE FURTHER SEARCH TAKES NOBODY, so that the enlarged group is the base group and the kept units, n less their count, and X less their
 -- turnovers. Each kept unit, as each unit that remains, stayed below X with n places: so the kept have at most their share of X, and who remains stays
 -- below what they leave.
-use mathlib.Core.Path.{◌≡◌, refl, sym, ap, ◌∙◌}
+use mathlib.Core.Path.{◌≡◌, refl, sym, ◌∙◌}
 use mathlib.Core.Bool.{Bool, true, false, not, cond}
 use mathlib.Core.List.{List, []}
 use Prim.Native.Nat.{ℕ, zero, suc, ◌+◌, ◌-◌, ◌*◌, ◌≤◌, ◌<◌}
 use native.Mathlib.Nat.{le_of_lt}
 use native.Mathlib.Omega.{arith}
-use lib.ListN.{length, get_or}
+use lib.ListN.{length}
 use lib.Dec.{ltb, leb}
 use borrow.Author.Tests.{lt-ltb, le-ltb, le-leb, lt-leb, not-true}
 use Rattle.rules.specs.Tests.{◌or◌, ◌and◌}
-use Rattle.rules.specs.Lists.{sum, elem, any_of}
+use Rattle.rules.specs.Lists.{elem, any_of}
 use Rattle.rules.specs.Selection.{sum_of, count, rank, firsts, least_from, every}
-use Rattle.rules.specs.TakeAll.{Group, turnover, larger, rest_without, take_all_size, rest_turnover, take_all_group}
+use Rattle.rules.specs.TakeAll.{Group, turnover, larger, rest_without, take_all_size, take_all_group}
 use Rattle.rules.specs.Kept.{Keeping, keeping, in_previous, near_border, candidate, kept, forced, largest_among, rest_among, reaches_among, fits_among, size_among, rest_found_among, group_among, further, enlarge, enlarged_group}
 use Rattle.rules.proofs.Tests.{and_left, and_on, and_off, and_second, or_none, or_false, by_test, by_order}
 use Rattle.selection.proofs.Sums.{sum_le, sum_same, sum_none, sum_list}

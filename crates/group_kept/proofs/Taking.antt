@@ -1,19 +1,19 @@
 -- Document 02, [9]: the kept units held in a list, their turnover, and what the marks, n and X then are: the enlarged group.
 use mathlib.Core.Path.{◌≡◌, refl, sym, ap, ap₂, ◌∙◌, subst}
-use mathlib.Core.Bool.{Bool, true, false, not, cond}
-use mathlib.Core.List.{List, [], ◌∷◌, ◌++◌, map}
-use Prim.Native.Nat.{ℕ, zero, suc, ◌+◌, ◌-◌, ◌*◌, ◌≤◌, ◌<◌, min}
+use mathlib.Core.Bool.{Bool, true, false, cond}
+use mathlib.Core.List.{List, [], ◌∷◌, ◌++◌}
+use Prim.Native.Nat.{ℕ, zero, suc, ◌+◌, ◌-◌, ◌≤◌, ◌<◌, min}
 use native.Mathlib.Nat.{le_refl}
 use native.Mathlib.Omega.{arith}
 use lib.ListN.{length, get_or, take}
 use lib.Seq.{take-suc, get_or-take, length-take-le}
 use lib.Dec.{ltb}
 use borrow.Author.Tests.{lt-ltb, le-ltb}
-use Rattle.rules.specs.Tests.{◌or◌, ◌and◌}
+use Rattle.rules.specs.Tests.{◌and◌}
 use Rattle.rules.specs.Lists.{sum}
 use Rattle.rules.specs.Selection.{sum_of, count, rank, firsts}
-use Rattle.rules.specs.TakeAll.{turnover, larger, take_all_size, take_all_group, Group as RulesGroup}
-use Rattle.rules.specs.Kept.{Keeping, in_previous, near_border, candidate, kept, forced, enlarged_group}
+use Rattle.rules.specs.TakeAll.{turnover, larger, take_all_group, Group as RulesGroup}
+use Rattle.rules.specs.Kept.{Keeping, near_border, candidate, kept, forced, enlarged_group}
 use Rattle.rules.proofs.Tests.{and_left, and_on, or_on, or_off, by_test, by_order}
 use Rattle.selection.specs.Ranked.{Ranked}
 use Rattle.selection.specs.Marked.{Marked}
@@ -23,7 +23,7 @@ use Rattle.selection.proofs.Places.{ranked_short, firsts_step, count_held}
 use Rattle.selection.proofs.Marking.{marks_first}
 use Rattle.selection.proofs.TakeAll.{larger_order, size_le}
 use Rattle.group.specs.declared.Group.{Group}
-use Rattle.group.specs.Group.{marked, rules_group, Agree, IsGroup}
+use Rattle.group.specs.Group.{marked, rules_group, IsGroup}
 use Rattle.group_border.specs.Border.{Candidates}
 use Rattle.group_kept.specs.Reckoned.{Reckoned}
 use Rattle.group_kept.specs.Kept.{IsEnlarged, turnover_of, Outside}

@@ -1,6 +1,7 @@
 // Firms at the border (document 02, [9]; 001, the end of section 4.2): the take-all group of a frame with a threshold γ and the take-all lists of up to two
 // previous draws. The further search that the request words takes nobody (proofs/Enlarged.antt), so none runs. With no lists it is the base group.
 #![tactic(auto)]
+
 ghost use Rattle.std.specs.Prelude.{◌≡◌, ◌-◌, ◌≤◌, min, length};
 ghost use Rattle.rules.specs.Kept.{keeping};
 ghost use Rattle.group_kept.specs.Kept.{Enlargeable, IsEnlarged, turnover_of, Outside};

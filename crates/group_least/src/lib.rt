@@ -2,6 +2,7 @@
 // group, all of them at once; then X falls, and the next pass looks who reaches it now, until nobody more does. Nothing is put in order: the group is
 // whoever has at least one turnover, the least of a unit that reaches.
 #![tactic(auto)]
+
 ghost use Rattle.std.specs.Prelude.{◌≡◌, ℕ, ◌*◌, ◌<◌, ◌≤◌, length, leb};
 ghost use Rattle.rules.specs.Limits.{most_panel, most_turnover};
 ghost use Rattle.rules.specs.Lists.{sum};

@@ -1,15 +1,13 @@
 -- What a call that no refusal stops knows: refusals 1, 2, 3, 5, 6 and 30 do not apply.
 use mathlib.Core.Path.{◌≡◌}
-use mathlib.Core.Bool.{false}
 use mathlib.Core.List.{List}
 use Prim.Native.Nat.{ℕ, ◌≤◌}
 use lib.ListN.{length}
 use borrow.Author.Tests.{ltb-false, eqb-true, not-false}
-use Rattle.rules.specs.Kept.{Keeping, take_all_units_refusal, keeping_refusal}
+use Rattle.rules.specs.Kept.{Keeping, take_all_units_refusal}
 use Rattle.rules.proofs.Tests.{or_false}
 use Rattle.rules.proofs.Refusals.{refuse_none, then_none}
 use Rattle.frame.proofs.Accepted.{Units, units}
-use Rattle.group.proofs.Accepted.{sized}
 use Rattle.group_kept.specs.Kept.{Enlargeable}
 use Rattle.group_kept.proofs.Accepted.{enlargeable}
 

@@ -1,6 +1,7 @@
 // The take-all group as unit numbers (document 02, [9]): the list that a later draw takes. With no previous lists it is the base group, with lists the
 // enlarged one (docs/DECISIONS.md, "The take-all list of a draw").
 #![tactic(auto)]
+
 ghost use Rattle.std.specs.Prelude.{◌≡◌, ◌≤◌, length, get_or};
 ghost use Rattle.rules.specs.Refusals.{written};
 ghost use Rattle.rules.specs.Selection.{count, listed};

@@ -1,5 +1,5 @@
 -- Document 02, [9]: WITH NO LISTS THE ROTATION IS THE BASE ROTATION, with the threshold of 1.
-use mathlib.Core.Path.{◌≡◌, refl, ap, ◌∙◌}
+use mathlib.Core.Path.{◌≡◌, refl, ap}
 use mathlib.Core.Bool.{Bool}
 use mathlib.Core.List.{List}
 use Prim.Native.Nat.{ℕ}
@@ -11,7 +11,7 @@ use Rattle.rules.specs.Refusals.{refuse, ◌then◌}
 use Rattle.rules.specs.TakeAll.{Frame, Group, take_all_group}
 use Rattle.rules.specs.Kept.{Keeping, bad_list, bad_keeping, keeping_refusal, enlarged_group}
 use Rattle.rules.specs.Draw.{Method, frame_refusal}
-use Rattle.rules.specs.Rotation.{Births, start_at, member, least_step, leavers, rotated_at, short_leavers, bad_old_panel, bad_previous, bad_births, lists_refusal, rotation_refusal, rotation_answer_by, rotation_leavers_by, kept_lists_refusal, kept_rotation_refusal, kept_rotation_answer, kept_rotation_leavers}
+use Rattle.rules.specs.Rotation.{Births, start_at, member, least_step, leavers, rotated_at, lists_refusal, rotation_refusal, rotation_answer_by, rotation_leavers_by, kept_lists_refusal, kept_rotation_refusal, kept_rotation_answer, kept_rotation_leavers}
 use Rattle.rules.proofs.Refusals.{then_none, then_same, judged_same, written_same}
 use Rattle.frame.proofs.Accepted.{accepted}
 use Rattle.group_kept.proofs.Enlarged.{no_lists, enlarged_base}

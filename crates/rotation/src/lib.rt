@@ -2,6 +2,7 @@
 // step of the start at which enough members leave the panel, and who leaves. The take-all group, the units' gaps and the members do not depend on the step
 // and are found once; what a step does is crate `rotation_step`, who leaves at the step that is found crate `rotation_leavers`.
 #![tactic(auto)]
+
 ghost use Rattle.std.specs.Prelude.{◌≡◌, ◌≤◌};
 ghost use Rattle.rules.specs.Limits.{most_frame, fraction_scale};
 ghost use Rattle.rules.specs.Refusals.{◌then◌};

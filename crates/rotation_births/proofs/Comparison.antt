@@ -1,13 +1,12 @@
 -- The comparison of a birth within 64 bits, and what refusal 25 leaves of n' and X'.
 use mathlib.Core.Path.{◌≡◌, sym, ap, ◌∙◌}
-use mathlib.Core.Bool.{true, false, not}
+use mathlib.Core.Bool.{false, not}
 use Prim.Native.Nat.{ℕ, ◌*◌, ◌≤◌, ◌<◌}
 use native.Mathlib.Omega.{arith}
 use native.Mathlib.Nat.{mul_assoc, mul-le-mul, mul-le-mul_right}
 use lib.Dec.{ltb, eqb}
 use borrow.Author.Tests.{lt-ltb, le-ltb, ltb-false, eq-eqb, eqb-true, not-false}
 use Rattle.rules.specs.Limits.{most_panel, most_turnover, random_range}
-use Rattle.rules.specs.Tests.{◌or◌, ◌and◌}
 use Rattle.rules.specs.Rotation.{within_previous, bad_previous}
 use Rattle.rules.proofs.Tests.{or_false, and_on, by_order}
 

@@ -1,5 +1,6 @@
 // Births (document 02, [2]; 001, section 4.2): what a rotation refuses of them and of the previous draw's n' and X', and whether one joins.
 #![tactic(auto)]
+
 ghost use Rattle.std.specs.Prelude.{◌≡◌, true, false, not, ◌<◌, ◌≤◌};
 ghost use Rattle.rules.specs.Limits.{most_turnover, random_range};
 ghost use Rattle.rules.specs.Lists.{rising, elem, any_of};

@@ -1,6 +1,7 @@
 // What a rotation refuses before it looks at any step (document 01, refusals 1 to 7; document 02, [2], refusals 25 and 26, and [9], refusal 30): the frame with
 // the old start, the leavers' buffer, γ with the previous take-all lists, the old panel with the fraction, the previous n' and X', and the births, in this order.
 #![tactic(auto)]
+
 ghost use Rattle.std.specs.Prelude.{◌≡◌, true};
 ghost use Rattle.rules.specs.Refusals.{◌then◌};
 ghost use Rattle.rules.specs.Lists.{rising};

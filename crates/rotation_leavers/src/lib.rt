@@ -1,6 +1,7 @@
 // Who leaves (document 01, "Rotation"; document 02, [1]), at the step that was found: the members that are not sampled under its start, listed once,
 // put in order by falling turnover, and their unit numbers written out.
 #![tactic(auto)]
+
 ghost use Rattle.std.specs.Prelude.{◌≡◌, ◌<◌, ◌≤◌, length};
 ghost use Rattle.rules.specs.Limits.{most_frame};
 ghost use Rattle.rules.specs.Refusals.{written};

@@ -1,6 +1,7 @@
 // The members of a rotation (document 01, "Rotation"; document 02, [2]): "old panel units that are in the frame and not take-all now", and the births outside
 // take-all that join them. They do not depend on the step, so a rotation finds them once and each step looks at them alone.
 #![tactic(auto)]
+
 ghost use Rattle.std.specs.Prelude.{◌≡◌, true, not, ◌+◌, ◌<◌, ◌≤◌, length};
 ghost use Rattle.rules.specs.Lists.{rising};
 ghost use Rattle.rules.specs.TakeAll.{frame};

@@ -11,7 +11,6 @@ use lib.Seq.{get_or-drop}
 use lib.Dec.{ltb, eqb}
 use borrow.Author.Count.{below_more}
 use borrow.Author.Tests.{lt-ltb, le-ltb, eqb-true, eqb-false, ltb-true}
-use Rattle.rules.specs.Tests.{◌and◌}
 use Rattle.rules.specs.Lists.{rising, elem}
 use Rattle.rules.proofs.Tests.{by_test, by_order, and_on, and_off, and_left, and_right}
 use Rattle.rules.proofs.Lists.{rising_below, elem_here, elem_next, elem_end, elem_low}

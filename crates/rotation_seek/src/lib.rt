@@ -1,6 +1,7 @@
 // Two rising lists gone through side by side: a number of the one is sought in the other from where the last search stopped. Old panel and births are sought
 // in a frame's numbers so, and the births' test seeks the frame's numbers in the births' order.
 #![tactic(auto)]
+
 ghost use Rattle.std.specs.Prelude.{◌≡◌};
 ghost use Rattle.rotation_seek.specs.Passed.{Passed, Reached, stands, behind};
 

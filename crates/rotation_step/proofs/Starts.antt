@@ -9,7 +9,7 @@ use borrow.Author.Tests.{le-leb, lt-leb}
 use Rattle.rules.specs.Limits.{random_range}
 use Rattle.rules.specs.Rotation.{start_at}
 use Rattle.draw_key.specs.declared.Setting.{Setting}
-use Rattle.rotation_step.specs.Leaving.{under, setting_at, leaving, enough_leave}
+use Rattle.rotation_step.specs.Leaving.{setting_at, leaving, enough_leave}
 use Rattle.rotation_step.specs.Search.{Searched}
 
 -- a start that a step leads to is one

@@ -2,6 +2,7 @@
 // enough do. A step looks for the last sampled unit under its start and holds each member against it; who they are is listed once, by crate
 // `rotation_leavers`.
 #![tactic(auto)]
+
 ghost use Rattle.std.specs.Prelude.{◌≡◌, ◌<◌, ◌≤◌};
 ghost use Rattle.rules.specs.Limits.{random_range, steps};
 ghost use Rattle.rotation_step.specs.Leaving.{setting_at, leaving, first_step};

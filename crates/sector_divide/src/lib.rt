@@ -1,5 +1,6 @@
 // Document 02, [10]: the quotas' whole parts and remainders, by T' (`rest`), the strengths left (`total`) and the marks of the sectors that left.
 #![tactic(auto)]
+
 ghost use Rattle.std.specs.Prelude.{◌≡◌, cond, ◌*◌, ◌/◌, ◌%◌, ◌≤◌, ◌<◌, length, eqb};
 ghost use Rattle.rules.specs.Limits.{highest_strength, most_interviews};
 ghost use Rattle.rules.specs.Allocation.{no_places, in_places};

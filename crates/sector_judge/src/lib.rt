@@ -1,5 +1,6 @@
 // Document 02, [10]: refusal 31.
 #![tactic(auto)]
+
 ghost use Rattle.std.specs.Prelude.{◌≡◌, ltb};
 ghost use Rattle.rules.specs.Limits.{lowest_strength, highest_strength};
 ghost use Rattle.rules.specs.Tests.{outside};

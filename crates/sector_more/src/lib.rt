@@ -1,5 +1,6 @@
 // Document 02, [10]: one more interview each, by largest remainder, earlier sector first.
 #![tactic(auto)]
+
 ghost use Rattle.std.specs.Prelude.{◌≤◌, length};
 ghost use Rattle.rules.specs.Selection.{count};
 ghost use Rattle.rules.specs.TakeAll.{larger};

@@ -1,5 +1,6 @@
 // Document 02, [10]: the passes in which sectors leave. A mark of 0 says that a sector is still there, as it is beyond the marks.
 #![tactic(auto)]
+
 ghost use Rattle.std.specs.Prelude.{◌≡◌, not, ℕ, length};
 ghost use Rattle.rules.specs.Limits.{most_sectors};
 ghost use Rattle.rules.specs.Tests.{◌and◌};

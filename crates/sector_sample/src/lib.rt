@@ -1,5 +1,6 @@
 // Document 02, [10]: the sample shared over sectors.
 #![tactic(auto)]
+
 ghost use Rattle.std.specs.Prelude.{◌≡◌};
 ghost use Rattle.rules.specs.Allocation.{sharing, count_list, whole_list, remainder_list, sample_refusal, sample_counts, sample_wholes, sample_remainders};
 ghost use Rattle.refusals.specs.Number.{verdict_of};

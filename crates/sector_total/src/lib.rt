@@ -1,5 +1,6 @@
 // Document 01, "Total" and refusal 14; 001, formula 11: the index over sectors.
 #![tactic(auto)]
+
 ghost use Rattle.std.specs.Prelude.{◌≡◌, not, ◌<◌, ◌≤◌, ◌^◌, length, eqb};
 ghost use Rattle.rules.specs.Limits.{most_sectors, sector_scale};
 ghost use Rattle.rules.specs.Tests.{◌or◌};

@@ -1,5 +1,6 @@
 // Document 02, [12]: one line of the quarterly sheet, laid into the first bytes of a lent buffer, and the change that it prints.
 #![tactic(auto)]
+
 ghost use Rattle.std.specs.Prelude.{◌≡◌, ◌≤◌, length};
 ghost use Rattle.rules.specs.Limits.{name_columns, line_bytes, highest_index, lowest_printable, highest_printable};
 ghost use Rattle.rules.specs.Tests.{outside};

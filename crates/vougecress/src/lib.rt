@@ -1,6 +1,7 @@
 // The library for callers in C is joined from the crates that hold functions for C (docs/CRATES.md); here is its version.
 // include/vougecress.h documents each function for its caller.
 #![tactic(auto)]
+
 ghost use Rattle.std.specs.Prelude.{◌≡◌};
 ghost use Rattle.vougecress.specs.Version.{library_version};
 

@@ -1,5 +1,5 @@
 -- A refused verdict answers its number and leaves both buffers; an accepted one is what `draw_panel` asks for.
-use mathlib.Core.Path.{refl, sym, ap, ap₂, ◌∙◌}
+use mathlib.Core.Path.{sym, ap, ap₂, ◌∙◌}
 use Prim.Native.Nat.{ℕ}
 use Rattle.rules.specs.Refusals.{Judged}
 use Rattle.rules.specs.Draw.{kept_draw_answer, kept_draw_numbers, kept_draw_weights}

@@ -1,5 +1,5 @@
 -- After i turns the first i gaps stand.
-use mathlib.Core.Path.{◌≡◌, refl, ◌∙◌}
+use mathlib.Core.Path.{refl, ◌∙◌}
 use Prim.Native.Nat.{◌<◌}
 use native.Mathlib.Omega.{arith}
 use lib.ListN.{length}
@@ -18,8 +18,7 @@ loop-i-init c = record { within = omega arith; same = refl; at = below_none _ }
 
 pub gap-requires : goal.gap-requires
 gap-requires c =
-    let low = place_le c.args.turnovers.now c.loop-i.i c.loop-i-test.true in
-    (
+    let low = place_le c.args.turnovers.now c.loop-i.i c.loop-i-test.true in (
       omega (arith, low, c.requires.turnovers_bound.0),
       rw c.taken_off-off.ensures (omega (arith, taken_low c.args.method c.args.n, c.requires.turnovers_bound.1)),
     )
@@ -30,7 +29,7 @@ loop-i-preserved c =
     let inv = c.loop-i.invariant in
     let room : c.loop-i.i < length c.loop-i.gaps = omega (arith, c.loop-i-test.true, inv.same, c.requires.turnovers_in_bounds.1) in
     elim c.if-marks-i-eq1.branch [
-      then-marks-i-eq1 w ↦ filled _ _ inv c.loop-i-test.true room w.gaps-is (rw (eq-eqb _ _ w.if-marks-i-eq1.true))
+      | then-marks-i-eq1 w ↦ filled _ _ inv c.loop-i-test.true room w.gaps-is (rw (eq-eqb _ _ w.if-marks-i-eq1.true))
       | else-marks-i-eq1 w ↦ filled _ _ inv c.loop-i-test.true room w.gaps-is (w.gap.ensures ∙ rw (ne_eqb _ _ w.if-marks-i-eq1.false))
     ]
 

@@ -1,7 +1,7 @@
 -- The search finds a bound; the check makes it one.
 use native.Mathlib.Omega.{arith}
 use mathlib.Core.Path.{◌≡◌}
-use native.Mathlib.Nat.{pos_of_ne-zero}
+use Prim.Native.Nat.{◌<◌}
 use lib.ListN.{length}
 use Rattle.draw_list.proofs.Searched.{under_scaled, listed_count, listed_placed, is_found}
 use Rattle.draw_list.proofs.find.Goals as goal
@@ -23,6 +23,7 @@ is_checked-sure-requires c =
 pub returns : goal.returns
 returns c = λ h.
     let num = c.most_numerator-most.ensures in
-    let seen : c.collect-list.result.seen ≡ length c.args.turnovers.now = omega (arith, c.collect-list.ensures.within_frame, c.if-list-turnovers.false) in
+    let seen : c.collect-list.result.seen ≡ length c.args.turnovers.now = omega (arith, c.collect-list.ensures.within_frame) in
+    let some : 0 < c.args.s.n = omega arith in
     is_found _ c.collect-list.ensures seen c.requires c.parts_of-parts.ensures.0 (under_scaled num.0 num.1) c.parts_of-parts.ensures.1
-    (c.is_checked-sure.ensures h) (pos_of_ne-zero c.if-s-eq0.false) _
+    (c.is_checked-sure.ensures h) some _

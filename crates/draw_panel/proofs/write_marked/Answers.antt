@@ -4,7 +4,7 @@ use mathlib.Core.Path.{refl, ap}
 use mathlib.Core.Bool.{not}
 use lib.ListN.{length}
 use borrow.Author.Tests.{eq-eqb, ne_eqb}
-use Rattle.draw_panel.proofs.Writing.{writing_none, writing_skip, writing_not, writing_more, writing_same, places}
+use Rattle.draw_panel.proofs.Writing.{writing_none, writing_not, writing_more, writing_same, places}
 use Rattle.draw_panel.proofs.write_marked.Goals as goal
 use Rattle.draw_panel.proofs.write_marked.Goals.{else-marks-i-ne0, then-marks-i-ne0}
 
@@ -38,12 +38,12 @@ overflow_add-k c =
 
 pub loop-i-preserved : goal.loop-i-preserved
 loop-i-preserved c = elim c.if-marks-i-ne0.branch [
-  then-marks-i-ne0 w ↦
-    let room = places c.loop-i.invariant.1 (length c.args.turnovers.now) c.loop-i-test.true (ap not (ne_eqb _ _ w.if-marks-i-ne0.true)) c.requires.marks_in_bounds.0 c.requires.marks_in_bounds.1 in (
-      omega (arith, c.loop-i-test.true),
-      writing_same w.panel-is w.weights-is w.k-is
-          (writing_more c.loop-i.invariant.1 (ap not (ne_eqb _ _ w.if-marks-i-ne0.true)) room.0 room.1 refl w.weight_of.ensures),
-    )
+  | then-marks-i-ne0 w ↦
+      let room = places c.loop-i.invariant.1 (length c.args.turnovers.now) c.loop-i-test.true (ap not (ne_eqb _ _ w.if-marks-i-ne0.true)) c.requires.marks_in_bounds.0 c.requires.marks_in_bounds.1 in (
+        omega (arith, c.loop-i-test.true),
+        writing_same w.panel-is w.weights-is w.k-is
+            (writing_more c.loop-i.invariant.1 (ap not (ne_eqb _ _ w.if-marks-i-ne0.true)) room.0 room.1 refl w.weight_of.ensures),
+      )
   | else-marks-i-ne0 w ↦ (
     omega (arith, c.loop-i-test.true),
     writing_same w.panel-is w.weights-is w.k-is (writing_not c.loop-i.invariant.1 (ap not (eq-eqb _ _ w.if-marks-i-ne0.false))),

@@ -15,7 +15,7 @@ pub loop-i-preserved : goal.loop-i-preserved
 loop-i-preserved c =
     let at = c.loop-i in
     elim c.if-most-random.branch [
-      then-most-random w ↦ rw w.most-is (larger _ at.most at.i at.invariant c.loop-i-test.true w.if-most-random.true)
+      | then-most-random w ↦ rw w.most-is (larger _ at.most at.i at.invariant c.loop-i-test.true w.if-most-random.true)
       | else-most-random w ↦ rw w.most-is (kept _ at.most at.i at.invariant c.loop-i-test.true w.if-most-random.false)
     ]
 

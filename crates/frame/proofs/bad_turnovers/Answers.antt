@@ -1,6 +1,6 @@
 -- `bad_turnovers` meets its contract. The invariant: the total with the sum from place i on is the whole sum, it is within the limit,
 -- and no turnover passed is 0.
-use Prim.Native.Nat.{ℕ, ◌-◌}
+use Prim.Native.Nat.{ℕ}
 use mathlib.Core.Bool.{Bool}
 use mathlib.Core.Path.{sym, ◌∙◌}
 use native.Mathlib.Omega.{arith}

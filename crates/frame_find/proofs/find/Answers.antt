@@ -1,5 +1,4 @@
 -- `find` meets its contract: the number lies between the two places, which meet.
-use Prim.Native.Nat.{◌-◌}
 use native.Mathlib.Omega.{arith}
 use Rattle.frame_find.proofs.Halves.{between_up, between_down, found_nowhere}
 use Rattle.frame_find.proofs.find.Goals as goal

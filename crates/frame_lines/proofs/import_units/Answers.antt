@@ -1,10 +1,9 @@
 -- A turn stores the unit of the next line, and after the last turn the list is the defined one.
-use mathlib.Core.Path.{◌≡◌, refl, sym, ap, ◌∙◌}
-use Prim.Native.Nat.{ℕ, ◌+◌, ◌-◌, ◌≤◌, ◌<◌}
+use mathlib.Core.Path.{sym, ap, ◌∙◌}
+use Prim.Native.Nat.{ℕ, ◌+◌, ◌-◌}
 use native.Mathlib.Omega.{arith}
-use mathlib.Core.List.{List}
 use lib.ListN.{length, set, length-set}
-use Rattle.rules.specs.Register.{Row as RulesRow, imported, import_count, row_at}
+use Rattle.rules.specs.Register.{Row as RulesRow, import_count}
 use Rattle.frame_lines.specs.Value.{unit_of}
 use Rattle.frame_lines.proofs.Scan.{count_le}
 use Rattle.frame_lines.proofs.Filled.{stored, stored_step, stored_end, units_stored}

@@ -1,5 +1,5 @@
 -- A line that lacks one of its three parts is bad; with all three it is their row, and each number fits its field.
-use mathlib.Core.Path.{◌≡◌, sym}
+use mathlib.Core.Path.{sym}
 use native.Mathlib.Omega.{arith}
 use Rattle.rules.specs.Limits.{most_short}
 use Rattle.text_field.proofs.Found.{comma_found, end_found}

@@ -15,7 +15,6 @@ use Rattle.group.specs.Group.{no_unit, marks_of, IsGroup}
 use Rattle.group.proofs.Accepted.{mark_at, marks_tell}
 use Rattle.group.proofs.find_group.Goals as goal
 
-
 module _ (ts : List ℕ) (z : ℕ) (s : Size) (k : IsSize ts z s) where
   group_is : (i : ℕ) → i < length ts → has_least ts s.least i ≡ (take_all_group ts z).takes_all i
   unfolding take_all_group

@@ -1,5 +1,5 @@
 -- After i turns the first i marks are written and the rest is as it was.
-use mathlib.Core.Path.{◌≡◌, refl, sym, ap, ◌∙◌}
+use mathlib.Core.Path.{refl, sym, ap, ◌∙◌}
 use mathlib.Core.Bool.{cond}
 use Prim.Native.Nat.{◌<◌}
 use native.Mathlib.Omega.{arith}
@@ -23,7 +23,7 @@ loop-i-preserved c =
     let stored =
     written_store every (λ j. cond (has_least c.args.turnovers.now c.args.least j) 1 0) _ _ l.i l.i _ refl refl l.invariant.1 (sym (count_every _)) room in
     elim c.if-least-turnovers.branch [
-      then-least-turnovers w ↦
+      | then-least-turnovers w ↦
           (omega arith, w.marks-is ∙ rw (le-leb _ _ w.if-least-turnovers.true) at stored, ap length w.marks-is ∙ simp length-set l.invariant.2)
       | else-least-turnovers w ↦
           (omega arith, w.marks-is ∙ rw (lt-leb _ _ w.if-least-turnovers.false) at stored, ap length w.marks-is ∙ simp length-set l.invariant.2)

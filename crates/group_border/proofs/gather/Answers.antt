@@ -18,7 +18,7 @@ loop-j-preserved c =
     -- in a turn there is room for one more
     let room : at.many < length at.places = omega (arith, at.invariant.few, at.invariant.long, l, c.requires.skip_value.2) in
     elim c.if-is_eligible.branch [
-      then-is_eligible+then-find-skip w ↦
+      | then-is_eligible+then-find-skip w ↦
           rw (w.places-is, w.many-is)
           (at_more _ _ _ _ _ _ _ _ _ _ _ _ _ _ at.invariant numbered up l f _ w.find.ensures (eligible-is ∙ w.if-is_eligible.true) w.if-find-skip.true room)
       | then-is_eligible+else-find-skip w ↦

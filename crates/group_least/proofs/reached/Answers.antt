@@ -23,6 +23,6 @@ loop-i-preserved c =
     let at = c.loop-i in
     let ts = c.args.turnovers.now in
     elim c.if-least-turnovers.branch [
-      then-least-turnovers w ↦ rw (w.count-is, w.turnover-is) (taken ts c.args.least at.count at.turnover at.i at.invariant c.loop-i-test.true w.if-least-turnovers.true)
+      | then-least-turnovers w ↦ rw (w.count-is, w.turnover-is) (taken ts c.args.least at.count at.turnover at.i at.invariant c.loop-i-test.true w.if-least-turnovers.true)
       | else-least-turnovers w ↦ rw (w.count-is, w.turnover-is) (left ts c.args.least at.count at.turnover at.i at.invariant c.loop-i-test.true w.if-least-turnovers.false)
     ]

@@ -1,8 +1,6 @@
 -- After i turns count and turnover are those of the first i units.
 use Prim.Native.Nat.{◌-◌}
 use lib.ListN.{length}
-use Rattle.rules.specs.Selection.{count}
-use Rattle.rules.specs.TakeAll.{turnover}
 use Rattle.group_least.proofs.Counted.{Counted}
 use Rattle.group_least.proofs.reached.Given as goal
 

@@ -1,7 +1,7 @@
 -- The sum by places (`sum_list`): a partial sum is at most the whole, which the contract bounds.
 use mathlib.Core.Path.{◌≡◌, refl, ap, ◌∙◌}
 use native.Mathlib.Omega.{arith}
-use Prim.Native.Nat.{◌+◌, ◌-◌}
+use Prim.Native.Nat.{◌+◌}
 use lib.ListN.{length}
 use Rattle.rules.specs.Selection.{sum_of, every}
 use Rattle.rules.specs.TakeAll.{turnover}

@@ -33,7 +33,7 @@ loop-i-preserved c =
     let at = c.loop-i.invariant in
     let l = c.loop-i-test.true in
     elim c.if-marks-i-eq1.branch [
-      then-marks-i-eq1 w ↦
+      | then-marks-i-eq1 w ↦
           rw (w.units-is, w.many-is)
           (at_more _ _ _ _ _ _ at l w.if-marks-i-eq1.true (room_for _ _ _ _ _ _ at l w.if-marks-i-eq1.true c.requires.1))
       | else-marks-i-eq1 w ↦ rw (w.units-is, w.many-is) (at_not _ _ _ _ _ _ at l w.if-marks-i-eq1.false)

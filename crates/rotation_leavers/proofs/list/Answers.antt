@@ -44,7 +44,7 @@ loop-j-preserved c =
     let few = fill_few at.invariant.1 in
     let room : at.count < length c.args.places.now = omega (arith, few, c.requires.1, c.loop-j-test.true) in
     elim c.if-not-is_sampled.branch [
-      then-not-is_sampled w ↦ (
+      | then-not-is_sampled w ↦ (
         omega arith,
         fill_same w.places-is w.count-is (fill_more at.invariant.1 _ (here ∙ ap not w.if-not-is_sampled.true) refl room),
       )

@@ -46,13 +46,13 @@ loop-i-preserved c =
     let room : c.loop-i.count < length c.args.places.now = omega (arith, fill_few at.filled, l, c.requires.numbers_len.1) in
     -- what the unit's test says
     let tested :
-        member_of c.args.turnovers.now c.args.randoms.now c.args.marks.now c.args.previous c.loop-i.i (stands c.args.panel.now c.seek-j.result x)
-        (stands c.args.births.now c.seek-b.result x)
-        ≡ c.is_member.result =
+    member_of c.args.turnovers.now c.args.randoms.now c.args.marks.now c.args.previous c.loop-i.i (stands c.args.panel.now c.seek-j.result x)
+    (stands c.args.births.now c.seek-b.result x)
+    ≡ c.is_member.result =
     rw (← c.stands_at-old.ensures, ← c.stands_at-birth.ensures) (sym c.is_member.ensures) in
     rw (c.behind-j.ensures, c.behind-b.ensures)
     (elim c.if-is_member.branch [
-      then-is_member w ↦ rw (w.places-is, w.count-is) (turn_in _ _ _ _ _ _ _ _ _ _ _ _ _ _ _ at up.0 up.1 up.2 l old birth (tested ∙ w.if-is_member.true) room)
+      | then-is_member w ↦ rw (w.places-is, w.count-is) (turn_in _ _ _ _ _ _ _ _ _ _ _ _ _ _ _ at up.0 up.1 up.2 l old birth (tested ∙ w.if-is_member.true) room)
       | else-is_member w ↦ rw (w.places-is, w.count-is) (turn_out _ _ _ _ _ _ _ _ _ _ _ _ _ _ _ at up.0 up.1 up.2 l old birth (tested ∙ w.if-is_member.false))
     ])
 

@@ -23,7 +23,7 @@ loop-j-preserved c =
     let at = c.loop-j in
     let here = ap not (sym c.is_sampled.ensures) in
     elim c.if-not-is_sampled.branch [
-      then-not-is_sampled w ↦ (
+      | then-not-is_sampled w ↦ (
         omega (arith, w.count-is),
         omega arith,
         rw (w.count-is, at.invariant.2) (sym (count_yes _ at.j (here ∙ ap not w.if-not-is_sampled.true))),

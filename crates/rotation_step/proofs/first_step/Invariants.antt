@@ -10,7 +10,7 @@ abbrev pub invariant-loop-k : goal.invariant-loop-k
 invariant-loop-k l =
     (l.k ≤ steps)
     × (first_step l.turnovers l.randoms l.gaps l.members l.s l.need
-      ≡ least_from (enough_leave l.turnovers l.randoms l.gaps l.members l.s l.need) (steps - l.k) l.k)
+    ≡ least_from (enough_leave l.turnovers l.randoms l.gaps l.members l.s l.need) (steps - l.k) l.k)
 
 abbrev pub decreases-loop-k : goal.decreases-loop-k
 decreases-loop-k l = steps - l.k

@@ -20,13 +20,15 @@ pub returns-then-strengths-i-gt-HIGHEST_STRENGTH : goal.returns-then-strengths-i
 unfolding outside ◌or◌
 returns-then-strengths-i-gt-HIGHEST_STRENGTH c =
     one_found bad _ c.loop-i.i _ c.loop-i.invariant.1 c.loop-i-test.true
-        (simp (le-ltb _ _ c.if-strengths-i-lt-LOWEST_STRENGTH.false, lt-ltb _ _ c.if-strengths-i-gt-HIGHEST_STRENGTH.true))
+    (simp (le-ltb _ _ c.if-strengths-i-lt-LOWEST_STRENGTH.false, lt-ltb _ _ c.if-strengths-i-gt-HIGHEST_STRENGTH.true))
 
 pub loop-i-preserved : goal.loop-i-preserved
 unfolding outside ◌or◌
-loop-i-preserved c =
-    (omega (arith, c.loop-i-test.true), one_next bad _ c.loop-i.i _ c.loop-i.invariant.1 c.loop-i-test.true
-        (simp (le-ltb _ _ c.if-strengths-i-lt-LOWEST_STRENGTH.false, le-ltb _ _ c.if-strengths-i-gt-HIGHEST_STRENGTH.false)))
+loop-i-preserved c = (
+  omega (arith, c.loop-i-test.true),
+  one_next bad _ c.loop-i.i _ c.loop-i.invariant.1 c.loop-i-test.true
+      (simp (le-ltb _ _ c.if-strengths-i-lt-LOWEST_STRENGTH.false, le-ltb _ _ c.if-strengths-i-gt-HIGHEST_STRENGTH.false)),
+)
 
 pub returns : goal.returns
 returns c = one_none bad _ c.loop-i.i _ c.loop-i.invariant.1 c.loop-i-test.false

@@ -2,7 +2,6 @@
 use mathlib.Core.Path.{◌≡◌, refl, ap, ◌∙◌, subst}
 use mathlib.Core.Bool.{false}
 use Prim.Native.Nat.{ℕ, ◌≤◌, ◌<◌}
-use native.Mathlib.Nat.{mul-le-mul}
 use native.Mathlib.Omega.{arith}
 use borrow.Author.Tests.{lt-ltb, le-ltb}
 use lib.ListN.{length, length-set}
@@ -24,21 +23,21 @@ loop-i-preserved c =
     let l = c.loop-i-test.true in
     let room : at.i < length at.gone = omega (arith, l, at.invariant.same, c.requires.room) in
     elim c.if-gone-i-eq0.branch [
-      then-gone-i-eq0+then-rest-strengths w ↦ record {
+      | then-gone-i-eq0+then-rest-strengths w ↦ record {
         most = omega (arith, l);
         few = omega (arith, w.leave-is, at.invariant.few);
         same = ap length w.gone-is ∙ simp length-set at.invariant.same;
         marks = passed_same still below _ _ _ _ _ w.gone-is w.leave-is
             (turn_leaves still below _ _ _ at.invariant.marks w.if-gone-i-eq0.true (lt-ltb _ _ w.if-rest-strengths.true) room);
       }
-    | then-gone-i-eq0+else-rest-strengths w ↦ record {
+      | then-gone-i-eq0+else-rest-strengths w ↦ record {
         most = omega (arith, l);
         few = omega (arith, w.leave-is, at.invariant.few);
         same = ap length w.gone-is ∙ at.invariant.same;
         marks = passed_same still below _ _ _ _ _ w.gone-is w.leave-is
             (turn_stays still below _ _ _ at.invariant.marks w.if-gone-i-eq0.true (le-ltb _ _ w.if-rest-strengths.false));
       }
-    | else-gone-i-eq0 w ↦ record {
+      | else-gone-i-eq0 w ↦ record {
         most = omega (arith, l);
         few = omega (arith, w.leave-is, at.invariant.few);
         same = ap length w.gone-is ∙ at.invariant.same;

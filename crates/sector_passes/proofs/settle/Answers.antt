@@ -1,5 +1,5 @@
 -- After k passes the rest of them from the marks at hand is the whole (proofs/Settling.antt).
-use mathlib.Core.Path.{◌≡◌, refl, sym, ◌∙◌}
+use mathlib.Core.Path.{refl, sym, ◌∙◌}
 use native.Mathlib.Omega.{arith}
 use Rattle.sector_passes.proofs.Settling.{strengths_summable, minima_summable, given_low, pass_asks, leaves_are, stays_are, passes_start, passes_stop, passes_on, passes_end}
 use Rattle.sector_passes.proofs.settle.Goals as goal

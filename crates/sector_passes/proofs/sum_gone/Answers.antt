@@ -20,8 +20,8 @@ loop-i-preserved c =
     let at = c.loop-i in
     let more = c.loop-i-test.true in
     elim c.if-gone-i-ne0.branch [
-      then-gone-i-ne0 w ↦ summed_in (counted gone) _ _ _ at.invariant _ more (gone_on gone at.i w.if-gone-i-ne0.true) w.sum-is
-    | else-gone-i-ne0 w ↦ summed_out (counted gone) _ _ _ at.invariant _ more (gone_off gone at.i w.if-gone-i-ne0.false) w.sum-is
+      | then-gone-i-ne0 w ↦ summed_in (counted gone) _ _ _ at.invariant _ more (gone_on gone at.i w.if-gone-i-ne0.true) w.sum-is
+      | else-gone-i-ne0 w ↦ summed_out (counted gone) _ _ _ at.invariant _ more (gone_off gone at.i w.if-gone-i-ne0.false) w.sum-is
     ]
 
 pub returns : goal.returns

@@ -20,8 +20,8 @@ loop-i-preserved c =
     let at = c.loop-i in
     let more = c.loop-i-test.true in
     elim c.if-gone-i-eq0.branch [
-      then-gone-i-eq0 w ↦ summed_in (counted gone) _ _ _ at.invariant _ more (still_on gone at.i w.if-gone-i-eq0.true) w.total-is
-    | else-gone-i-eq0 w ↦ summed_out (counted gone) _ _ _ at.invariant _ more (still_off gone at.i w.if-gone-i-eq0.false) w.total-is
+      | then-gone-i-eq0 w ↦ summed_in (counted gone) _ _ _ at.invariant _ more (still_on gone at.i w.if-gone-i-eq0.true) w.total-is
+      | else-gone-i-eq0 w ↦ summed_out (counted gone) _ _ _ at.invariant _ more (still_off gone at.i w.if-gone-i-eq0.false) w.total-is
     ]
 
 pub returns : goal.returns

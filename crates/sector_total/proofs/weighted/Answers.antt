@@ -1,9 +1,5 @@
 -- `weighted`: what is added up and what is left make the whole sum, which fits.
 use native.Mathlib.Omega.{arith}
-use mathlib.Core.Path.{◌≡◌}
-use Prim.Native.Nat.{◌+◌, ◌*◌, ◌-◌}
-use lib.ListN.{get_or, drop}
-use Rattle.rules.specs.Lists.{sum, products}
 use Rattle.rules.proofs.Lists.{products_step, products_end}
 use Rattle.sector_total.proofs.weighted.Goals as goal
 

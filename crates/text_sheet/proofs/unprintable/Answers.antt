@@ -1,5 +1,4 @@
 -- The bytes before i are printable, so what is left decides.
-use Prim.Native.Nat.{◌-◌}
 use borrow.Author.Rules.{rules}
 use borrow.Author.Tests.{lt-ltb, le-ltb}
 use mathlib.Core.Path.{◌∙◌}

@@ -1,0 +1,6 @@
+-- The loop ends since each turn that goes on has read a command, and the rest is shorter. What is written is no part of a contract.
+use Rattle.std.proofs.Common.{length}
+use Rattle.chainrun.proofs.run_stream.Given as goal
+
+abbrev pub decreases-loop-next : goal.decreases-loop-next
+decreases-loop-next l = length l.unread

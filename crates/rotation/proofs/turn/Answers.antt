@@ -1,0 +1,119 @@
+-- `turn` meets its contract: what its callees ensure, put together by the laws of `Composition`.
+use mathlib.Core.Path.{sym, ap, ◌∙◌}
+use Prim.Native.Nat.{◌≤◌}
+use native.Mathlib.Omega.{arith}
+use lib.ListN.{length}
+use lib.Seq.{length-take-le}
+use Rattle.rules.specs.Limits.{most_frame}
+use Rattle.rules.specs.Kept.{keeping}
+use Rattle.rules.specs.Rotation.{born, required}
+use Rattle.selection.proofs.Held.{held_room}
+use Rattle.rotation_members.proofs.Filling.{fill_held, fill_few}
+use Rattle.rotation_step.proofs.Starts.{moved}
+use Rattle.rotation.proofs.Composition.{frame_ok, lists_ok, ready, group_sound, searched, turn_refused, turn_given}
+use Rattle.rotation.proofs.turn.Goals as goal
+
+pub find_enlarged-g-requires : goal.find_enlarged-g-requires
+find_enlarged-g-requires c =
+    let b = born c.args.previous.n c.args.previous.rest c.args.births.now in
+    let p = keeping c.args.threshold c.args.first.now c.args.second.now in
+    let whole = frame_ok c.args.method _ _ _ _ _ _ _ b p _ c.requires in
+    (ready c.args.method _ _ _ _ _ _ _ b p _ c.requires, whole.units.few)
+
+pub fill-requires : goal.fill-requires
+fill-requires c =
+    let b = born c.args.previous.n c.args.previous.rest c.args.births.now in
+    let p = keeping c.args.threshold c.args.first.now c.args.second.now in
+    let whole = frame_ok c.args.method _ _ _ _ _ _ _ b p _ c.requires in
+    let marks_room : length c.args.turnovers.now ≤ length c.find_enlarged-g.new.marks = rw c.find_enlarged-g.auto.marks whole.units.few in
+    let parts = (group_sound c.args.method _ _ _ _ _ _ _ b p _ c.requires).parts in
+    record {
+      turnovers_bound = (whole.units.total, omega (arith, c.find_enlarged-g.ensures.agrees.size_is, parts, whole.units.size_few));
+      turnovers_in_bounds = (marks_room, whole.units.few);
+    }
+
+pub members-many-requires : goal.members-many-requires
+members-many-requires c =
+    let b = born c.args.previous.n c.args.previous.rest c.args.births.now in
+    let p = keeping c.args.threshold c.args.first.now c.args.second.now in
+    let whole = frame_ok c.args.method _ _ _ _ _ _ _ b p _ c.requires in
+    let lists = lists_ok c.args.method _ _ _ _ _ _ _ b p _ c.requires in
+    let marks_room : length c.args.turnovers.now ≤ length c.find_enlarged-g.new.marks = rw c.find_enlarged-g.auto.marks whole.units.few in
+    record {
+      numbers_value = (whole.rises, lists.rises, lists.births_rise);
+      judgeable = record {
+        few = marks_room;
+        same = whole.randoms_length;
+        within = whole.units.within;
+        low = whole.random_low;
+        start_low_lem = whole.start_low;
+        allowed = lists.previous;
+      };
+      numbers_len = (whole.numbers_length, rw whole.numbers_length whole.units.few);
+    }
+
+pub required-need-requires : goal.required-need-requires
+required-need-requires c =
+    let b = born c.args.previous.n c.args.previous.rest c.args.births.now in
+    let p = keeping c.args.threshold c.args.first.now c.args.second.now in
+    let whole = frame_ok c.args.method _ _ _ _ _ _ _ b p _ c.requires in
+    let lists = lists_ok c.args.method _ _ _ _ _ _ _ b p _ c.requires in
+    let few : c.members-many.result ≤ most_frame = omega (arith, fill_few c.members-many.ensures.filled, whole.numbers_length, whole.units.few) in
+    (lists.scaled, few)
+
+pub slice_bounds-places-end : goal.slice_bounds-places-end
+slice_bounds-places-end c = held_room (fill_held c.members-many.ensures.filled)
+
+pub slice_bounds-found-end : goal.slice_bounds-found-end
+slice_bounds-found-end c = sym (length-take-le c.members-many.result c.members-many.new.places (held_room (fill_held c.members-many.ensures.filled)))
+
+pub first_step-k-requires : goal.first_step-k-requires
+first_step-k-requires c =
+    let b = born c.args.previous.n c.args.previous.rest c.args.births.now in
+    let p = keeping c.args.threshold c.args.first.now c.args.second.now in
+    let held = fill_held c.members-many.ensures.filled in
+    searched c.args.method _ _ _ _ _ _ _ b p _ c.requires _ _ c.find_enlarged-g.ensures _ c.fill.ensures _ held.units_are
+
+pub returns-then-k-ge-STEPS : goal.returns-then-k-ge-STEPS
+returns-then-k-ge-STEPS c =
+    let b = born c.args.previous.n c.args.previous.rest c.args.births.now in
+    let p = keeping c.args.threshold c.args.first.now c.args.second.now in
+    let held = fill_held c.members-many.ensures.filled in
+    let many = length-take-le c.members-many.result c.members-many.new.places (held_room held) in
+    let need = c.required-need.ensures ∙ ap (required c.args.fraction) (sym many) in
+    let refused = turn_refused c.args.method _ _ _ _ _ _ _ b p _ c.requires _ _ c.find_enlarged-g.ensures _ c.fill.ensures _ held.units_are _ _
+    c.first_step-k.ensures need c.if-k-ge-STEPS.true in
+    record { result_value = refused.0; leavers_after = refused.1 }
+
+pub setting_at-at-requires : goal.setting_at-at-requires
+setting_at-at-requires c =
+    let b = born c.args.previous.n c.args.previous.rest c.args.births.now in
+    let p = keeping c.args.threshold c.args.first.now c.args.second.now in
+    let whole = frame_ok c.args.method _ _ _ _ _ _ _ b p _ c.requires in
+    (whole.start_low, omega arith)
+
+pub write-count-requires : goal.write-count-requires
+write-count-requires c =
+    let b = born c.args.previous.n c.args.previous.rest c.args.births.now in
+    let p = keeping c.args.threshold c.args.first.now c.args.second.now in
+    let whole = frame_ok c.args.method _ _ _ _ _ _ _ b p _ c.requires in
+    let lists = lists_ok c.args.method _ _ _ _ _ _ _ b p _ c.requires in
+    let held = fill_held c.members-many.ensures.filled in
+    let many = length-take-le c.members-many.result c.members-many.new.places (held_room held) in
+    let few : c.members-many.result ≤ most_frame = omega (arith, fill_few c.members-many.ensures.filled, whole.numbers_length, whole.units.few) in
+    let asked = searched c.args.method _ _ _ _ _ _ _ b p _ c.requires _ _ c.find_enlarged-g.ensures _ c.fill.ensures _ held.units_are in
+    record {
+      searched = moved _ _ _ _ _ _ asked _ _ c.setting_at-at.ensures;
+      numbers_len = (whole.numbers_length, rw many few, rw many (omega (arith, c.members-many.ensures.upper_bound, lists.long)));
+    }
+
+pub returns : goal.returns
+returns c =
+    let b = born c.args.previous.n c.args.previous.rest c.args.births.now in
+    let p = keeping c.args.threshold c.args.first.now c.args.second.now in
+    let held = fill_held c.members-many.ensures.filled in
+    let many = length-take-le c.members-many.result c.members-many.new.places (held_room held) in
+    let need = c.required-need.ensures ∙ ap (required c.args.fraction) (sym many) in
+    let turned = turn_given c.args.method _ _ _ _ _ _ _ b p _ c.requires _ _ c.find_enlarged-g.ensures _ c.fill.ensures _ held.units_are _ _
+    c.first_step-k.ensures need _ c.setting_at-at.ensures c.if-k-ge-STEPS.false _ c.write-count.ensures.value _ c.write-count.ensures.out_after in
+    record { result_value = turned.0; leavers_after = turned.1 }

@@ -1,0 +1,19 @@
+// A renewal on a lent record.
+
+ghost use Rattle.std.specs.Prelude.{◌≡◌};
+ghost use Rattle.rules.specs.Panel.{plain};
+ghost use Rattle.c_renew.specs.Record.{renewed_number, renewed_list};
+
+// Opens new weights from a lent record, and lays their record over it.
+#[unsafe(no_mangle)]
+pub extern "C" fn vougecress_renew(
+    weights: &[u64],
+    shares: &[u32],
+    relatives: &[u32],
+    lent: &mut [u64],
+) -> u32
+    ensures value { result ≡ renewed_number (plain weights.now shares.now relatives.now) lent.old }
+    ensures lent_after { lent.new ≡ renewed_list (plain weights.now shares.now relatives.now) lent.old }
+{
+    c_renew::renewal::vougecress_renew(weights, shares, relatives, lent)
+}

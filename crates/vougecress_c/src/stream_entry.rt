@@ -1,0 +1,35 @@
+// The reader of a job stream, and what a whole stream prints, on lent bytes.
+
+ghost use Rattle.std.specs.Prelude.{◌≡◌, length, drop};
+ghost use Rattle.rules.specs.Stream.{reading, rest_of};
+ghost use Rattle.stream_read.specs.Value.{taken_of};
+ghost use Rattle.rules.specs.Job.{output};
+ghost use Rattle.job_output.specs.Printed.{print_answer, printed_on};
+ghost use Rattle.c_stream.specs.Streams.{read_from, ran_from};
+
+use c_stream::Run;
+use c_values::reads::Read;
+
+#[unsafe(no_mangle)]
+pub extern "C" fn vougecress_read(stream: &[u8]) -> Read
+    ensures value { result ≡ read_from (reading stream.now) (taken_of stream.now) }
+    ensures stream_value { rest_of stream.now ≡ drop result.taken stream.now }
+{
+    c_stream::vougecress_read(stream)
+}
+
+#[unsafe(no_mangle)]
+pub extern "C" fn vougecress_run(stream: &[u8], out: &mut [u8]) -> Run
+    ensures value { result ≡ ran_from (print_answer stream.now out.old) }
+    ensures out_after { out.new ≡ printed_on stream.now out.old }
+{
+    c_stream::vougecress_run(stream, out)
+}
+
+// The bytes of the text that a run lays. It only counts, and never refuses.
+#[unsafe(no_mangle)]
+pub extern "C" fn vougecress_run_length(stream: &[u8]) -> u64
+    ensures { result ≡ length (output stream.now) }
+{
+    c_stream::vougecress_run_length(stream)
+}

@@ -1,0 +1,13 @@
+// The library for callers in C is joined from the crates that hold functions for C (docs/CRATES.md); here is its version.
+// include/vougecress.h documents each function for its caller.
+
+ghost use Rattle.std.specs.Prelude.{◌≡◌};
+ghost use Rattle.vougecress.specs.Version.{library_version};
+
+// The version that was built, for a caller to hold against the header's.
+#[unsafe(no_mangle)]
+pub extern "C" fn vougecress_version() -> u32
+    ensures { result ≡ library_version }
+{
+    vougecress::vougecress_version()
+}

@@ -1,0 +1,47 @@
+// Document 02, [4], for callers in C: a list of commands written as a job stream, and a whole stream read as such a list.
+// include/vougecress.h documents both for their caller.
+
+ghost use Rattle.std.specs.Prelude.{◌≡◌};
+ghost use Rattle.rules.specs.Writing.{lists, write_answer, write_bytes, read_all_answer, read_all_lists};
+ghost use Rattle.c_write.specs.Written.{written_from, listed_from};
+
+use c_write::{Listed, Written};
+
+#[unsafe(no_mangle)]
+pub extern "C" fn vougecress_write(
+    kinds: &[u8],
+    sizes: &[u8],
+    shares: &[u16],
+    numbers: &[u32],
+    randoms: &[u32],
+    amounts: &[u64],
+    out: &mut [u8],
+) -> Written
+    ensures value { result ≡ written_from (write_answer
+        (lists kinds.now sizes.now shares.now numbers.now randoms.now amounts.now)
+        out.old) }
+    ensures out_after { out.new ≡ write_bytes
+        (lists kinds.now sizes.now shares.now numbers.now randoms.now amounts.now)
+        out.old }
+{
+    c_write::vougecress_write(kinds, sizes, shares, numbers, randoms, amounts, out)
+}
+
+#[unsafe(no_mangle)]
+pub extern "C" fn vougecress_read_all(
+    stream: &[u8],
+    kinds: &mut [u8],
+    sizes: &mut [u8],
+    shares: &mut [u16],
+    numbers: &mut [u32],
+    randoms: &mut [u32],
+    amounts: &mut [u64],
+) -> Listed
+    ensures value { result ≡ listed_from (read_all_answer stream.now
+        (lists kinds.old sizes.old shares.old numbers.old randoms.old amounts.old)) }
+    ensures amounts_after { lists kinds.new sizes.new shares.new numbers.new randoms.new amounts.new
+        ≡ read_all_lists stream.now
+        (lists kinds.old sizes.old shares.old numbers.old randoms.old amounts.old) }
+{
+    c_write::vougecress_read_all(stream, kinds, sizes, shares, numbers, randoms, amounts)
+}
