@@ -1,4 +1,5 @@
 -- The three parts that are lent are the job's lists, so that the answer of `open` is the one that `rules` asks of them.
+use native.Mathlib.Omega.{arith}
 use Rattle.job_state.proofs.FirstPlaces.{Sized}
 use Rattle.job_calls.proofs.Calls.{no_panel, open_refused, open_accepted}
 use borrow.Author.Rules.{rules}
@@ -12,11 +13,11 @@ returns-then-size-eq0 c =
 pub returns-in-Refused : goal.returns-in-Refused
 returns-in-Refused c =
     let places : Sized c.args.job = search rules in
-    open_refused _ _ _ places _ c.within-size.ensures c.if-size-eq0.false c.open-opened.result c.open-opened.ensures.result_value _
+    open_refused _ _ _ places _ c.within-size.ensures (omega arith) c.open-opened.result c.open-opened.ensures.result_value _
     c.in-Refused.is c.said-in-Refused.ensures
 
 pub returns-in-Accepted : goal.returns-in-Accepted
 returns-in-Accepted c =
     let places : Sized c.args.job = search rules in
-    open_accepted _ _ _ places _ c.within-size.ensures c.if-size-eq0.false c.open-opened.result c.open-opened.ensures.result_value
+    open_accepted _ _ _ places _ c.within-size.ensures (omega arith) c.open-opened.result c.open-opened.ensures.result_value
     c.in-Accepted.is _ c.with_chain.ensures c.said-in-Accepted.ensures
