@@ -2,23 +2,23 @@
 // include/vougecress.h documents each function for its caller.
 #![tactic(auto)]
 
-pub mod chain_figures_entry;
-pub mod chain_outside_entry;
-pub mod chain_records_entry;
-pub mod draw_entry;
-pub mod draw_kept_entry;
-pub mod group_entry;
-pub mod lines_entry;
-pub mod load_entry;
-pub mod renew_outside_entry;
-pub mod renew_renewal_entry;
-pub mod rotation_entry;
-pub mod rotation_kept_entry;
-pub mod sample_entry;
-pub mod sheet_entry;
-pub mod stream_entry;
-pub mod units_entry;
-pub mod vougecress_entry;
-pub mod word_entry;
-pub mod write_entry;
-pub mod year_entry;
+pub mod chain_figures_for_c;
+pub mod chain_outside_for_c;
+pub mod chain_records_for_c;
+pub mod draw_for_c;
+pub mod draw_kept_for_c;
+pub mod group_for_c;
+pub mod lines_for_c;
+pub mod load_for_c;
+pub mod renew_outside_for_c;
+pub mod renew_renewal_for_c;
+pub mod rotation_for_c;
+pub mod rotation_kept_for_c;
+pub mod sample_for_c;
+pub mod sheet_for_c;
+pub mod stream_for_c;
+pub mod units_for_c;
+pub mod vougecress_for_c;
+pub mod word_for_c;
+pub mod write_for_c;
+pub mod year_for_c;
