@@ -37,9 +37,9 @@ def test_the_enum(t):
 
 def test_words_of_the_definitions(t):
     """Each case stands under its words where the number is defined."""
-    text = next(path.read_text() for path in TOP.glob("crates/*/specs/*.antt") if "\nnumberOf FrameLists = 1\n" in path.read_text())
+    text = next(path.read_text() for path in TOP.glob("crates/*/specs/*.antt") if "\nnumber_of FrameLists = 1\n" in path.read_text())
     for number, (name, words) in REFUSALS.items():
-        comment = re.search(rf"-- (.*)\nnumberOf {name} = {number}\n", text)
+        comment = re.search(rf"-- (.*)\nnumber_of {name} = {number}\n", text)
         t.check(comment is not None, f"number_of {name} is {number}")
         quoted = comment[1].split('"')[1].replace("likewise", "at open or after close")
         t.check(words.startswith(quoted), f"the words of {number}", (quoted, words))
