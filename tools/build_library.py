@@ -16,7 +16,7 @@ usage: ./build.sh     prove and build the library; at the end the folder is said
 
 It leaves libvougecress.a, libvougecress.so, vougecress.h and vougecress.pc (for pkg-config) there, and does nothing
 where the sources have not changed. It needs the Rattle toolchain (rt) and a C compiler (gcc or cc; CC names another).
-The first time takes some 8 minutes. Exit status: 0 done; 2 wrong use; 3 writing failed; 4 something that is needed is
+The first time takes some minutes. Exit status: 0 done; 2 wrong use; 3 writing failed; 4 something that is needed is
 missing, or a proof failed.
 """
 INSTALL_HELP = """\

@@ -24,7 +24,7 @@ Standard output is what the program chainrun prints:
 What is wrong or odd is said on standard error: for a refusal the line, the unit or place and the value.
 Exit status: 0 done; 1 refused (R was printed); 2 wrong use or wrong input, nothing was run; 3 reading or writing
 failed; 4 something that is needed is missing, or the program could not be built.
-The first run proves and builds the program, some 5 minutes; later ones take a fraction of a second.
+The first run proves and builds the program, some minutes; later ones take a fraction of a second.
 
 A line is one of:
 

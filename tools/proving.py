@@ -107,14 +107,14 @@ def built_program(say):
     """The path of chainrun, proved and built now if the sources have changed."""
     can_build = shutil.which("rt") and can_write()
     if not PROGRAM.is_fresh() and (can_build or not PROGRAM.is_newer()):
-        build(say, PROGRAM, "chainrun", "run", "5 minutes")
+        build(say, PROGRAM, "chainrun", "run")
     return PROGRAM.files[0]
 
 
 def built_archive(say):
     """The path of the archive with the functions for C, likewise."""
     if not ARCHIVE.is_fresh():
-        build(say, ARCHIVE, "vougecress_c", "lib", "8 minutes")
+        build(say, ARCHIVE, "vougecress_c", "lib")
     return ARCHIVE.files[0]
 
 
@@ -131,7 +131,7 @@ def alone(say, name):
         yield
 
 
-def build(say, product, crate, command, time):
+def build(say, product, crate, command):
     """Has `rt` prove and build this crate by this command, one build at a time in this repository."""
     if not shutil.which("rt"):
         raise Stop(NOT_READY, missing_rt())
@@ -141,7 +141,7 @@ def build(say, product, crate, command, time):
     with alone(say, "build.lock"):
         if product.is_fresh():
             return
-        say(f"proving and building {crate} from {total} crates (its parts); the first time some {time} on two cores")
+        say(f"proving and building {crate} from {total} crates (its parts); the first time that takes some minutes")
         source, progress = product.source(), Progress(say, total)
         folder, name = TOP / "crates" / crate, product.files[0].name
         run_rt(command, folder, name, progress)
