@@ -146,9 +146,16 @@ def build(say, product, crate, command):
         folder, name = TOP / "crates" / crate, product.files[0].name
         run_rt(command, folder, name, progress)
         progress.end()
-        product.files[0].parent.mkdir(parents=True, exist_ok=True)
-        shutil.copy(folder / "out" / name, product.files[0])
+        put(folder / "out" / name, product.files[0])
         product.mark(source)
+
+
+def put(made, place):
+    """Copies a file to its place at once, so that nobody ever finds a part of it there."""
+    place.parent.mkdir(parents=True, exist_ok=True)
+    beside = place.with_name(f".{place.name}.new")
+    shutil.copy(made, beside)
+    os.replace(beside, place)
 
 
 def run_rt(command, folder, name, progress):

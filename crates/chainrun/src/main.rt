@@ -3,7 +3,7 @@
 // A program has no exit status: a read or a write that fails is told on standard error, with the system's reason, and ends the run.
 #![tactic(auto)]
 
-ghost use Rattle.std.specs.Prelude.{◌≡◌, suc, ◌*◌, ◌≤◌, length, IfOk, OnErr};
+ghost use Rattle.std.specs.Prelude.{◌≡◌, suc, ◌*◌, ◌≤◌, length, IfOk};
 ghost use Rattle.rules.specs.Limits.{most_stream, most_panel};
 ghost use Rattle.text_lines.specs.Laid.{line_room};
 

@@ -1,4 +1,4 @@
-// The library for callers in C is joined from the crates that hold functions for C (docs/CRATES.md); here is its version.
+// The version of the library for callers in C, whose functions stand in the crates for C (docs/CRATES.md).
 // include/vougecress.h documents each function for its caller.
 #![tactic(auto)]
 
