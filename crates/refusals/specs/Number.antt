@@ -1,5 +1,6 @@
 -- Document 01, "Refusals caused by the input" and "… by the state": the number of each case.
-use Rattle.std.specs.Prelude.{ℕ}
+use Rattle.std.specs.Prelude.{ℕ, Result, Ok, Err}
+use Rattle.rules.specs.Refusals.{Judged}
 use Rattle.refusals.specs.declared.Refusal.{Refusal}
 use Rattle.refusals.specs.declared.Refusal.TheVariants.{FrameLists, UnitNumbers, Turnovers, RandomNumbers, PanelSize, ResultBuffer, OldPanel, NoStep, UnitLists, BaseWeights, Shares, StartIndex, Relatives, Sectors, StreamLength, UnknownCommand, CutShort, Place, State, FrameFull, LowWeight, WeightSum, FigureRange, ClosesSpent, TestLoad, Sample, RegisterLine, RegisterRoom, SheetLine, Writing, PreviousSample, Births, YearRoom, OutsideShare, PreviousLists}
 use Rattle.refusals.specs.declared.Verdict.{Verdict}
@@ -81,3 +82,13 @@ number_of PreviousLists = 30
 abbrev pub verdict_of : Verdict → ℕ
 verdict_of Accepted = 0
 verdict_of (Refused why) = number_of why
+
+-- what a group of tests finds: 0 where no refusal applies, else the number of the first that does
+abbrev pub refusal_of : Result Unit Refusal → ℕ
+refusal_of (Ok _) = 0
+refusal_of (Err why) = number_of why
+
+-- what an entry answers, in the words of `rules`: a refusal by its number, or what it was asked for, as `words` has it
+abbrev pub answer_of : {A B : Type 0} → (A → B) → Result A Refusal → Judged B
+answer_of words (Ok answer) = Judged.given (words answer)
+answer_of words (Err why) = Judged.refused (number_of why)
