@@ -11,6 +11,14 @@ ghost use Rattle.refusals.specs.Number.{verdict_of};
 use limits::{MOST_FRAME, MOST_PANEL, MOST_TURNOVER, RANDOM_RANGE};
 use refusals::{Refusal, Verdict};
 
+// The three lists of a frame, as a caller lends them.
+#[derive(Clone, Copy)]
+pub struct Frame<'a> {
+    pub numbers: &'a [u32],
+    pub turnovers: &'a [u64],
+    pub randoms: &'a [u32],
+}
+
 // "empty or over 16,384"
 pub fn bad_count(turnovers: &[u64]) -> bool
     ensures { result ≡ bad_count turnovers.now }

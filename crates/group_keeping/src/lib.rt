@@ -6,6 +6,14 @@ ghost use Rattle.rules.specs.Kept.{keeping, bad_list, bad_keeping};
 
 use limits::{MOST_PANEL, THRESHOLD_SCALE};
 
+// The threshold γ and the take-all lists of up to two previous draws. An empty list is no list.
+#[derive(Clone, Copy)]
+pub struct Keeping<'a> {
+    pub threshold: u32,
+    pub first: &'a [u32],
+    pub second: &'a [u32],
+}
+
 // "a previous list is over 100 or not rising"
 fn bad_list(list: &[u32]) -> bool
     ensures { result ≡ bad_list list.now }
