@@ -8,6 +8,8 @@ ghost use Rattle.draw.specs.Answer.{answer_from};
 ghost use Rattle.c_draw.specs.Answer.{drawn_from};
 
 use draw_key::Method;
+use frame::Frame;
+use refusals::Refusal;
 
 // The answer of a draw.
 #[repr(C)]
@@ -19,17 +21,17 @@ pub struct Drawn {
 }
 
 // The answer as C has it.
-pub fn shown(answer: draw::Answer) -> Drawn
+pub fn shown(answer: Result<draw::Drawn, Refusal>) -> Drawn
     ensures { result ≡ drawn_from (answer_from answer) }
 {
     match answer {
-        draw::Answer::Drawn { n, rest } => Drawn {
+        Ok(drawn) => Drawn {
             refusal: 0,
-            n: n as u64,
-            rest,
+            n: drawn.n as u64,
+            rest: drawn.rest,
         },
-        draw::Answer::Refused(why) => Drawn {
-            refusal: why.number() as u32,
+        Err(why) => Drawn {
+            refusal: u32::from(why.number()),
             n: 0,
             rest: 0,
         },
@@ -50,8 +52,12 @@ pub extern "C" fn vougecress_draw(
     ensures panel_after { panel.new ≡ draw_numbers (frame numbers.now turnovers.now randoms.now) z start panel.old weights.old }
     ensures weights_after { weights.new ≡ draw_weights (frame numbers.now turnovers.now randoms.now) z start panel.old weights.old }
 {
-    let answer = draw::draw(numbers, turnovers, randoms, z, start, panel, weights);
-    shown(answer)
+    let frame = Frame {
+        numbers,
+        turnovers,
+        randoms,
+    };
+    shown(draw::draw(&frame, z, start, panel, weights))
 }
 
 #[unsafe(no_mangle)]
@@ -68,15 +74,11 @@ pub extern "C" fn vougecress_draw_poisson(
     ensures panel_after { panel.new ≡ draw_numbers_by KeyMethod.sequential_poisson (frame numbers.now turnovers.now randoms.now) z start panel.old weights.old }
     ensures weights_after { weights.new ≡ draw_weights_by KeyMethod.sequential_poisson (frame numbers.now turnovers.now randoms.now) z start panel.old weights.old }
 {
-    let answer = draw::draw_by(
-        Method::SequentialPoisson,
+    let frame = Frame {
         numbers,
         turnovers,
         randoms,
-        z,
-        start,
-        panel,
-        weights,
-    );
+    };
+    let answer = draw::draw_by(Method::SequentialPoisson, &frame, z, start, panel, weights);
     shown(answer)
 }

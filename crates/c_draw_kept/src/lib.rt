@@ -9,6 +9,8 @@ ghost use Rattle.c_draw.specs.Answer.{drawn_from};
 
 use c_draw::Drawn;
 use draw_key::Method;
+use frame::Frame;
+use group_keeping::Keeping;
 
 #[unsafe(no_mangle)]
 pub extern "C" fn vougecress_draw_kept(
@@ -30,19 +32,17 @@ pub extern "C" fn vougecress_draw_kept(
     ensures weights_after { weights.new ≡ kept_draw_weights KeyMethod.pareto (frame numbers.now turnovers.now randoms.now) z start
         (keeping threshold first.now second.now) panel.old weights.old }
 {
-    let answer = draw::draw_kept(
-        Method::Pareto,
+    let frame = Frame {
         numbers,
         turnovers,
         randoms,
-        z,
-        start,
+    };
+    let keeping = Keeping {
         threshold,
         first,
         second,
-        panel,
-        weights,
-    );
+    };
+    let answer = draw::draw_kept(Method::Pareto, &frame, z, start, &keeping, panel, weights);
     c_draw::shown(answer)
 }
 
@@ -66,16 +66,22 @@ pub extern "C" fn vougecress_draw_poisson_kept(
     ensures weights_after { weights.new ≡ kept_draw_weights KeyMethod.sequential_poisson (frame numbers.now turnovers.now randoms.now) z start
         (keeping threshold first.now second.now) panel.old weights.old }
 {
-    let answer = draw::draw_kept(
-        Method::SequentialPoisson,
+    let frame = Frame {
         numbers,
         turnovers,
         randoms,
-        z,
-        start,
+    };
+    let keeping = Keeping {
         threshold,
         first,
         second,
+    };
+    let answer = draw::draw_kept(
+        Method::SequentialPoisson,
+        &frame,
+        z,
+        start,
+        &keeping,
         panel,
         weights,
     );

@@ -9,6 +9,9 @@ ghost use Rattle.rotation.specs.Answer.{answer_from};
 ghost use Rattle.c_rotation.specs.Answer.{rotated_from};
 
 use draw_key::Method;
+use frame::Frame;
+use refusals::Refusal;
+use rotation_births::{Candidates, Previous};
 
 // The answer of a rotation.
 #[repr(C)]
@@ -21,18 +24,18 @@ pub struct Rotated {
 }
 
 // The answer as C has it.
-pub fn shown(answer: rotation::Answer) -> Rotated
+pub fn shown(answer: Result<rotation::Rotated, Refusal>) -> Rotated
     ensures { result ≡ rotated_from (answer_from answer) }
 {
     match answer {
-        rotation::Answer::Rotated { k, start, count } => Rotated {
+        Ok(rotated) => Rotated {
             refusal: 0,
-            k,
-            start,
-            count: count as u64,
+            k: rotated.k,
+            start: rotated.start,
+            count: rotated.count as u64,
         },
-        rotation::Answer::Refused(why) => Rotated {
-            refusal: why.number() as u32,
+        Err(why) => Rotated {
+            refusal: u32::from(why.number()),
             k: 0,
             start: 0,
             count: 0,
@@ -59,10 +62,22 @@ pub extern "C" fn vougecress_rotate(
     ensures leavers_after { leavers.new ≡ rotation_leavers (frame numbers.now turnovers.now randoms.now) z old panel.now
         fraction (born size rest births.now) leavers.old }
 {
-    let answer = rotation::rotate(
-        numbers, turnovers, randoms, z, old, panel, fraction, size, rest, births, leavers,
-    );
-    shown(answer)
+    let frame = Frame {
+        numbers,
+        turnovers,
+        randoms,
+    };
+    let previous = Previous {
+        start: old,
+        n: size,
+        rest,
+    };
+    let candidates = Candidates {
+        panel,
+        births,
+        previous,
+    };
+    shown(rotation::rotate(&frame, z, &candidates, fraction, leavers))
 }
 
 #[unsafe(no_mangle)]
@@ -84,18 +99,27 @@ pub extern "C" fn vougecress_rotate_poisson(
     ensures leavers_after { leavers.new ≡ rotation_leavers_by KeyMethod.sequential_poisson (frame numbers.now turnovers.now randoms.now) z from panel.now
         fraction (born previous rest births.now) leavers.old }
 {
-    let answer = rotation::rotate_by(
-        Method::SequentialPoisson,
+    let frame = Frame {
         numbers,
         turnovers,
         randoms,
-        z,
-        from,
-        panel,
-        fraction,
-        previous,
+    };
+    let previous = Previous {
+        start: from,
+        n: previous,
         rest,
+    };
+    let candidates = Candidates {
+        panel,
         births,
+        previous,
+    };
+    let answer = rotation::rotate_by(
+        Method::SequentialPoisson,
+        &frame,
+        z,
+        &candidates,
+        fraction,
         leavers,
     );
     shown(answer)

@@ -10,6 +10,9 @@ ghost use Rattle.c_rotation.specs.Answer.{rotated_from};
 
 use c_rotation::Rotated;
 use draw_key::Method;
+use frame::Frame;
+use group_keeping::Keeping;
+use rotation_births::{Candidates, Previous};
 
 #[unsafe(no_mangle)]
 pub extern "C" fn vougecress_rotate_kept(
@@ -33,21 +36,33 @@ pub extern "C" fn vougecress_rotate_kept(
     ensures leavers_after { leavers.new ≡ kept_rotation_leavers KeyMethod.pareto (frame numbers.now turnovers.now randoms.now) z old panel.now
         fraction (born size rest births.now) (keeping threshold first.now second.now) leavers.old }
 {
-    let answer = rotation::rotate_kept(
-        Method::Pareto,
+    let frame = Frame {
         numbers,
         turnovers,
         randoms,
-        z,
-        old,
-        panel,
-        fraction,
-        size,
+    };
+    let previous = Previous {
+        start: old,
+        n: size,
         rest,
+    };
+    let candidates = Candidates {
+        panel,
         births,
+        previous,
+    };
+    let keeping = Keeping {
         threshold,
         first,
         second,
+    };
+    let answer = rotation::rotate_kept(
+        Method::Pareto,
+        &frame,
+        z,
+        &candidates,
+        fraction,
+        &keeping,
         leavers,
     );
     c_rotation::shown(answer)
@@ -75,21 +90,33 @@ pub extern "C" fn vougecress_rotate_poisson_kept(
     ensures leavers_after { leavers.new ≡ kept_rotation_leavers KeyMethod.sequential_poisson (frame numbers.now turnovers.now randoms.now) z old panel.now
         fraction (born size rest births.now) (keeping threshold first.now second.now) leavers.old }
 {
-    let answer = rotation::rotate_kept(
-        Method::SequentialPoisson,
+    let frame = Frame {
         numbers,
         turnovers,
         randoms,
-        z,
-        old,
-        panel,
-        fraction,
-        size,
+    };
+    let previous = Previous {
+        start: old,
+        n: size,
         rest,
+    };
+    let candidates = Candidates {
+        panel,
         births,
+        previous,
+    };
+    let keeping = Keeping {
         threshold,
         first,
         second,
+    };
+    let answer = rotation::rotate_kept(
+        Method::SequentialPoisson,
+        &frame,
+        z,
+        &candidates,
+        fraction,
+        &keeping,
         leavers,
     );
     c_rotation::shown(answer)

@@ -3,13 +3,16 @@
 use mathlib.Core.Path.{◌≡◌, sym, ap, subst, ◌∙◌}
 use mathlib.Core.List.{List}
 use Prim.Native.Nat.{ℕ}
+use Rattle.std.specs.Prelude.{Result, Ok}
 use contract.Lifetimes.{Lfts}
 use denote.Ref.{Bor, MutBor}
 use lib.ListN.{length, take, drop}
 use lib.Seq.{take_at}
 use Rattle.rules.specs.Refusals.{written}
-use Rattle.rules.specs.TakeAll.{Frame, frame, take_all_group}
-use Rattle.rules.specs.Draw.{Drawn, draw_refusal, draw_answer, draw_weights_by}
+use Rattle.rules.specs.TakeAll as rules
+use Rattle.rules.specs.TakeAll.{take_all_group}
+use Rattle.rules.specs.Draw as draws
+use Rattle.rules.specs.Draw.{draw_refusal, draw_answer, draw_weights_by}
 use Rattle.rules.specs.Panel.{plain, panel_record}
 use Rattle.rules.specs.Events.{Event, Made, events}
 use Rattle.rules.specs.Direct.{direct_open, AllWithin}
@@ -20,8 +23,10 @@ use Rattle.chain_bound_code.specs.Calls.{OpenMade, PanelOpened, CallsMade}
 use Rattle.chain_bound_code.proofs.Demand3.{demand3}
 use Rattle.draw_key.specs.declared.Method.{Method}
 use Rattle.draw_key.specs.Methods.{method_of}
-use Rattle.draw.specs.declared.Answer.{Answer}
-use Rattle.draw.specs.declared.Answer.TheVariants as Answers
+use Rattle.frame.specs.declared.Frame.{Frame}
+use Rattle.frame.specs.Frame.{frame_of}
+use Rattle.refusals.specs.declared.Refusal.{Refusal}
+use Rattle.draw.specs.declared.Drawn.{Drawn}
 use Rattle.draw.specs.Answer.{answer_from}
 use Rattle.draw.proofs.Accepted.{draw_accepted}
 use Rattle.draw.proofs.Intended.{z_weights}
@@ -40,25 +45,25 @@ demand3_handed ws w g a index o handed opened accepted list given follow =
 
 -- A draw asks nothing of its caller.
 pub draw_asks :
-    (κs : Lfts 5) (method : Method) (ns ts rs : Bor (List ℕ)) (z start : ℕ) (numbers weights : MutBor (List ℕ))
-    → draw-reads.Asked κs (method, (ns, (ts, (rs, (z, (start, (numbers, (weights, tt))))))))
-draw_asks κs method ns ts rs z start numbers weights = tt
+    (κs : Lfts 4) (method : Method) (f : Bor Frame) (z start : ℕ) (numbers weights : MutBor (List ℕ))
+    → draw-reads.Asked κs (method, (f, (z, (start, (numbers, (weights, tt))))))
+draw_asks κs method f z start numbers weights = tt
 
 -- a draw that answered n and x
-module _ (method : Method) (ns ts rs : Bor (List ℕ)) (z start : ℕ) (numbers weights : MutBor (List ℕ)) (r : Answer) (ws : List ℕ)
-    (made : DrawMade method ns ts rs z start numbers weights r ws) (n x : ℕ) (drawn : r ≡ Answers.Drawn n x) where
-  abbrev f : Frame
-  f = frame ns.now ts.now rs.now
+module _ (method : Method) (lent : Bor Frame) (z start : ℕ) (numbers weights : MutBor (List ℕ)) (r : Result Drawn Refusal) (ws : List ℕ)
+    (made : DrawMade method lent z start numbers weights r ws) (d : Drawn) (drawn : r ≡ Ok d) where
+  abbrev f : rules.Frame
+  f = frame_of lent.now
 
   abbrev panel : List ℕ
-  panel = drawn_weights method ns.now ts.now rs.now z start
+  panel = drawn_weights method f.numbers f.turnovers f.randoms z start
 
   none : draw_refusal f z start numbers.now weights.now ≡ 0
   unfolding draw_answer
   none =
-      let g = take_all_group ts.now z in
-      let answer : Drawn = record { sample_size = g.sample_size; rest = g.rest } in
-      (given_tells _ answer (record { sample_size = n; rest = x }) (sym (ap answer_from drawn) ∙ made.learnt.0)).0
+      let g = take_all_group f.turnovers z in
+      let answer : draws.Drawn = record { sample_size = g.sample_size; rest = g.rest } in
+      (given_tells _ answer (record { sample_size = d.n; rest = d.rest }) (sym (ap answer_from drawn) ∙ made.learnt.0)).0
 
   -- THE WEIGHTS: the first z places of the buffer
   pub weights_are : take z ws ≡ panel

@@ -1,14 +1,17 @@
 -- A chain opened with the weights of a draw with previous lists (document 02, [9]), by either method, is one of those that demand 3 covers.
 use mathlib.Core.Path.{◌≡◌, sym, ap, ◌∙◌}
 use mathlib.Core.List.{List}
+use Rattle.std.specs.Prelude.{Result, Ok}
 use Prim.Native.Nat.{ℕ}
 use denote.Ref.{Bor, MutBor}
 use lib.ListN.{length, take, drop}
 use lib.Seq.{take_at}
 use Rattle.rules.specs.Refusals.{written}
-use Rattle.rules.specs.TakeAll.{Frame, frame}
-use Rattle.rules.specs.Kept.{Keeping, keeping, enlarged_group}
-use Rattle.rules.specs.Draw.{Drawn, kept_draw_refusal, kept_draw_answer, kept_draw_weights}
+use Rattle.rules.specs.TakeAll as rules
+use Rattle.rules.specs.Kept as kept
+use Rattle.rules.specs.Kept.{enlarged_group}
+use Rattle.rules.specs.Draw as draws
+use Rattle.rules.specs.Draw.{kept_draw_refusal, kept_draw_answer, kept_draw_weights}
 use Rattle.rules.specs.Events.{Event, Made}
 use Rattle.rules.proofs.Refusals.{given_tells}
 use Rattle.chain_open.specs.declared.Opening.{Opening}
@@ -16,31 +19,35 @@ use Rattle.chain_open.specs.declared.Opened.{Opened}
 use Rattle.chain_bound_code.specs.Calls.{OpenMade, CallsMade}
 use Rattle.draw_key.specs.declared.Method.{Method}
 use Rattle.draw_key.specs.Methods.{method_of}
-use Rattle.draw.specs.declared.Answer.{Answer}
-use Rattle.draw.specs.declared.Answer.TheVariants as Answers
+use Rattle.frame.specs.declared.Frame.{Frame}
+use Rattle.frame.specs.Frame.{frame_of}
+use Rattle.group_keeping.specs.declared.Keeping.{Keeping}
+use Rattle.group_keeping.specs.Keeping.{keeping_of}
+use Rattle.refusals.specs.declared.Refusal.{Refusal}
+use Rattle.draw.specs.declared.Drawn.{Drawn}
 use Rattle.draw.specs.Answer.{answer_from}
 use Rattle.draw.proofs.Accepted.{kept_accepted}
 use Rattle.draw.proofs.Intended.{kept_weights_lem}
 use Rattle.chain_bound_draw.specs.Kept.{KeptMade, kept_weights}
 use Rattle.chain_bound_draw.proofs.Demand3.{Covered, demand3_handed}
 
-module _ (method : Method) (ns ts rs : Bor (List ℕ)) (z start threshold : ℕ) (first second : Bor (List ℕ)) (numbers weights : MutBor (List ℕ)) (r : Answer) (ws : List ℕ)
-    (made : KeptMade method ns ts rs z start threshold first second numbers weights r ws) (n x : ℕ) (drawn : r ≡ Answers.Drawn n x) where
-  abbrev f : Frame
-  f = frame ns.now ts.now rs.now
+module _ (method : Method) (lent : Bor Frame) (z start : ℕ) (lists : Bor Keeping) (numbers weights : MutBor (List ℕ)) (r : Result Drawn Refusal) (ws : List ℕ)
+    (made : KeptMade method lent z start lists numbers weights r ws) (d : Drawn) (drawn : r ≡ Ok d) where
+  abbrev f : rules.Frame
+  f = frame_of lent.now
 
-  abbrev p : Keeping
-  p = keeping threshold first.now second.now
+  abbrev p : kept.Keeping
+  p = keeping_of lists.now
 
   abbrev panel : List ℕ
-  panel = kept_weights method ns.now ts.now rs.now z start threshold first.now second.now
+  panel = kept_weights method f.numbers f.turnovers f.randoms z start p.threshold p.first p.second
 
   none : kept_draw_refusal f z start p numbers.now weights.now ≡ 0
   unfolding kept_draw_answer
   none =
-      let g = enlarged_group ns.now ts.now z p in
-      let answer : Drawn = record { sample_size = g.sample_size; rest = g.rest } in
-      (given_tells _ answer (record { sample_size = n; rest = x }) (sym (ap answer_from drawn) ∙ made.learnt.0)).0
+      let g = enlarged_group f.numbers f.turnovers z p in
+      let answer : draws.Drawn = record { sample_size = g.sample_size; rest = g.rest } in
+      (given_tells _ answer (record { sample_size = d.n; rest = d.rest }) (sym (ap answer_from drawn) ∙ made.learnt.0)).0
 
   -- THE WEIGHTS: the first z places of the buffer
   pub weights_are : take z ws ≡ panel

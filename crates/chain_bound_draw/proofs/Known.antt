@@ -20,6 +20,6 @@ module _ (w : World) (γ : Env) where
   KnownBy = Known w.𝓛 (Over w.𝓛 w.𝓜 w.𝓡 γ)
 
   pub draw_known : Wired w.𝓡.env draw-symbol.code → γ draw-symbol.name ≡ w.𝓡.env draw-symbol.name →
-      KnownBy 5 draw-kinds.ps draw-kinds.r draw-reads.Asked draw-reads.Learnt draw-symbol.name
+      KnownBy 4 draw-kinds.ps draw-kinds.r draw-reads.Asked draw-reads.Learnt draw-symbol.name
   draw_known wired same =
       draw-reads.known w γ draw-symbol.name (w.𝓡.env draw-symbol.name) same (draw-theorem.met w.𝓤 w.𝓛 w.𝓜 w.𝓡 wired)

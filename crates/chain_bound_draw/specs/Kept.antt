@@ -1,5 +1,5 @@
 -- Document 02, [9]: "The chain is judged by the enlarged group's weights". A call of `draw::draw_kept`, as `Drawing` has one of `draw_by`.
-use Rattle.std.specs.Prelude.{ℕ, ◌≡◌, List}
+use Rattle.std.specs.Prelude.{ℕ, ◌≡◌, List, Result}
 use contract.Lifetimes.{Lfts}
 use Rattle.std.specs.Borrow.{Bor, MutBor}
 use denote.Triple.Clauses.{AtExit}
@@ -8,16 +8,19 @@ use Rattle.rules.specs.Kept.{keeping, enlarged_group}
 use Rattle.rules.specs.Draw.{panel_weights}
 use Rattle.draw_key.specs.declared.Method.{Method}
 use Rattle.draw_key.specs.Methods.{method_of}
-use Rattle.draw.specs.declared.Answer.{Answer}
+use Rattle.frame.specs.declared.Frame.{Frame}
+use Rattle.group_keeping.specs.declared.Keeping.{Keeping}
+use Rattle.refusals.specs.declared.Refusal.{Refusal}
+use Rattle.draw.specs.declared.Drawn.{Drawn}
 use Rattle.draw.specs.contracts.draw_kept as kept-contract
 use Rattle.draw.proofs.draw_kept.Reads as kept-reads
 
 -- `draw_kept` with a threshold and two lists returned r and left ws in the buffer of the weights
-pub record KeptMade (method : Method) (ns ts rs : Bor (List ℕ)) (z start threshold : ℕ) (first second : Bor (List ℕ)) (numbers weights : MutBor (List ℕ)) (r : Answer) (ws : List ℕ) : Type 0 where
-  pub lifetimes : Lfts 7
+pub record KeptMade (method : Method) (f : Bor Frame) (z start : ℕ) (p : Bor Keeping) (numbers weights : MutBor (List ℕ)) (r : Result Drawn Refusal) (ws : List ℕ) : Type 0 where
+  pub lifetimes : Lfts 6
   pub end : AtExit kept-contract.ended lifetimes
-  pub leaves : end.1.1.1.1.1.1.1.1.1.1.0.now ≡ ws
-  pub learnt : kept-reads.Learnt lifetimes (method, (ns, (ts, (rs, (z, (start, (threshold, (first, (second, (numbers, (weights, tt))))))))))) r end
+  pub leaves : end.1.1.1.1.1.1.0.now ≡ ws
+  pub learnt : kept-reads.Learnt lifetimes (method, (f, (z, (start, (p, (numbers, (weights, tt))))))) r end
 
 -- the W of the panel, by the enlarged group
 abbrev pub kept_weights : Method → List ℕ → List ℕ → List ℕ → ℕ → ℕ → ℕ → List ℕ → List ℕ → List ℕ

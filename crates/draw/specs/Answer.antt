@@ -1,16 +1,16 @@
 -- What the draws answer and write, in the words of `rules`.
-use Rattle.std.specs.Prelude.{◌≡◌, List, ℕ}
+use Rattle.std.specs.Prelude.{◌≡◌, List, ℕ, Result}
 use Rattle.rules.specs.TakeAll.{Frame, Group as RulesGroup}
 use Rattle.rules.specs.Refusals.{Judged, written}
-use Rattle.rules.specs.Draw.{Method, Drawn, panel_numbers, panel_weights}
-use Rattle.refusals.specs.Number.{number_of}
+use Rattle.rules.specs.Draw as rules
+use Rattle.rules.specs.Draw.{Method, panel_numbers, panel_weights}
+use Rattle.refusals.specs.declared.Refusal.{Refusal}
+use Rattle.refusals.specs.Number.{answer_of}
 use Rattle.group.specs.declared.Group.{Group}
-use Rattle.draw.specs.declared.Answer.{Answer}
-use Rattle.draw.specs.declared.Answer.TheVariants.{Drawn as Sampled, Refused}
+use Rattle.draw.specs.declared.Drawn.{Drawn}
 
-abbrev pub answer_from : Answer → Judged Drawn
-answer_from (Sampled n rest) = Judged.given (record { sample_size = n; rest = rest })
-answer_from (Refused why) = Judged.refused (number_of why)
+abbrev pub answer_from : Result Drawn Refusal → Judged rules.Drawn
+answer_from = answer_of (λ (d : Drawn). record { sample_size = d.n; rest = d.rest })
 
 -- n and X of the group
 pub record IsSize (r : RulesGroup) (g : Group) : Type 0 where

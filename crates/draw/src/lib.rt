@@ -3,231 +3,210 @@
 #![tactic(auto)]
 
 ghost use Rattle.std.specs.Prelude.{◌≡◌, ◌≤◌, length};
-ghost use Rattle.rules.specs.TakeAll.{frame};
-ghost use Rattle.rules.specs.Kept.{keeping, enlarged_group};
+ghost use Rattle.rules.specs.Limits.{most_frame};
+ghost use Rattle.rules.specs.Kept.{enlarged_group};
 ghost use Rattle.rules.specs.Draw.{draw_answer, draw_numbers_by, draw_weights_by, draw_numbers, draw_weights, kept_draw_refusal, kept_draw_answer, kept_draw_numbers, kept_draw_weights};
-ghost use Rattle.refusals.specs.Number.{verdict_of};
+ghost use Rattle.refusals.specs.Number.{refusal_of};
+ghost use Rattle.frame.specs.Frame.{frame_of};
+ghost use Rattle.group_keeping.specs.Keeping.{keeping_of};
 ghost use Rattle.draw_key.specs.Methods.{method_of};
 ghost use Rattle.draw.specs.Answer.{answer_from, IsSize, numbers_over, weights_over};
 
 use draw_key::{Method, Setting};
+use frame::Frame;
 use group::Group;
+use group_keeping::Keeping;
 use limits::{MOST_FRAME, THRESHOLD_SCALE};
-use refusals::{Refusal, Verdict};
+use refusals::Refusal;
 
 // Units of a small frame: as many as a job holds.
 const SMALL_FRAME: usize = 1024;
 
-#[derive(Drop)]
-pub enum Answer {
-    Drawn { n: usize, rest: u64 },
-    Refused(Refusal),
+// What a draw answers: the number n of sampled units and the rest turnover X.
+#[derive(Clone, Copy)]
+pub struct Drawn {
+    pub n: usize,
+    pub rest: u64,
 }
 
 // Refusals 1 to 6 and 30: the first that applies.
 fn judge(
-    numbers: &[u32],
-    turnovers: &[u64],
-    randoms: &[u32],
+    frame: &Frame,
     z: usize,
     start: u32,
-    threshold: u32,
-    first: &[u32],
-    second: &[u32],
+    keeping: &Keeping,
     panel: &[u32],
     weights: &[u64],
-) -> Verdict
-    ensures { verdict_of result ≡ kept_draw_refusal (frame numbers.now turnovers.now randoms.now) z start
-        (keeping threshold first.now second.now) panel.now weights.now }
+) -> Result<(), Refusal>
+    ensures { refusal_of result ≡ kept_draw_refusal (frame_of frame.now) z start (keeping_of keeping.now) panel.now weights.now }
 {
-    let verdict = frame::judge(numbers, turnovers, randoms, z, start);
-    match verdict {
-        Verdict::Refused(why) => Verdict::Refused(why),
-        Verdict::Accepted => {
-            if panel.len() < z {
-                return Verdict::Refused(Refusal::ResultBuffer);
-            }
-            if weights.len() < z {
-                return Verdict::Refused(Refusal::ResultBuffer);
-            }
-            if group_keeping::bad_keeping(threshold, first, second) {
-                return Verdict::Refused(Refusal::PreviousLists);
-            }
-            Verdict::Accepted
-        }
+    frame::judge(frame, z, start)?;
+    if panel.len() < z {
+        return Err(Refusal::ResultBuffer);
     }
+    if weights.len() < z {
+        return Err(Refusal::ResultBuffer);
+    }
+    if group_keeping::bad_keeping(keeping) {
+        return Err(Refusal::PreviousLists);
+    }
+    Ok(())
 }
 
 // Draws the panel of a frame that no refusal stops, with room for the gaps and the marks of its units, and answers the take-all group that it was drawn with.
 fn draw_with(
     method: Method,
-    numbers: &[u32],
-    turnovers: &[u64],
-    randoms: &[u32],
+    frame: &Frame,
     z: usize,
     start: u32,
-    threshold: u32,
-    first: &[u32],
-    second: &[u32],
+    keeping: &Keeping,
     gaps: &mut [u64],
     marks: &mut [u8],
     panel: &mut [u32],
     weights: &mut [u64],
 ) -> Group
-    requires weights_value { kept_draw_refusal (frame numbers.now turnovers.now randoms.now) z start (keeping threshold first.now second.now) panel.old weights.old ≡ 0 }
-    requires turnovers_in_bounds { (length turnovers.now ≤ length gaps.old) × (length turnovers.now ≤ length marks.old) }
-    ensures size { IsSize (enlarged_group numbers.now turnovers.now z (keeping threshold first.now second.now)) result }
-    ensures panel_after { panel.new ≡ numbers_over (method_of method) (frame numbers.now turnovers.now randoms.now)
-        (enlarged_group numbers.now turnovers.now z (keeping threshold first.now second.now)) start panel.old }
-    ensures weights_after { weights.new ≡ weights_over (method_of method) (frame numbers.now turnovers.now randoms.now)
-        (enlarged_group numbers.now turnovers.now z (keeping threshold first.now second.now)) start weights.old }
+    requires weights_value { kept_draw_refusal (frame_of frame.now) z start (keeping_of keeping.now) panel.old weights.old ≡ 0 }
+    requires turnovers_in_bounds { (length frame.now.turnovers.now ≤ length gaps.old) × (length frame.now.turnovers.now ≤ length marks.old) }
+    ensures size { IsSize (enlarged_group frame.now.numbers.now frame.now.turnovers.now z (keeping_of keeping.now)) result }
+    ensures panel_after { panel.new ≡ numbers_over (method_of method) (frame_of frame.now)
+        (enlarged_group frame.now.numbers.now frame.now.turnovers.now z (keeping_of keeping.now)) start panel.old }
+    ensures weights_after { weights.new ≡ weights_over (method_of method) (frame_of frame.now)
+        (enlarged_group frame.now.numbers.now frame.now.turnovers.now z (keeping_of keeping.now)) start weights.old }
 {
-    let g = group_kept::find_enlarged(numbers, turnovers, z, threshold, first, second, marks);
-    draw_gaps::fill(turnovers, marks, method, g.n, g.rest, gaps);
+    let g = group_kept::find_enlarged(frame.numbers, frame.turnovers, z, keeping, marks);
+    draw_gaps::fill(frame.turnovers, marks, method, g.n, g.rest, gaps);
     let s = Setting {
         method,
         start,
         n: g.n,
         rest: g.rest,
     };
-    let found = draw_list::find(turnovers, randoms, gaps, s, z);
+    let found = draw_list::find(frame.turnovers, frame.randoms, gaps, s, z);
     if found.sure {
-        draw_panel::write_found(numbers, turnovers, marks, s, found, panel, weights);
+        draw_panel::write_found(
+            frame.numbers,
+            frame.turnovers,
+            marks,
+            s,
+            found,
+            panel,
+            weights,
+        );
         return g;
     }
-    draw_panel::write_ordered(numbers, turnovers, randoms, gaps, s, marks, panel, weights);
+    draw_panel::write_ordered(
+        frame.numbers,
+        frame.turnovers,
+        frame.randoms,
+        gaps,
+        s,
+        marks,
+        panel,
+        weights,
+    );
     g
+}
+
+// The same with room for N units.
+fn draw_in<const N: usize>(
+    method: Method,
+    frame: &Frame,
+    z: usize,
+    start: u32,
+    keeping: &Keeping,
+    panel: &mut [u32],
+    weights: &mut [u64],
+) -> Group
+    requires weights_value { kept_draw_refusal (frame_of frame.now) z start (keeping_of keeping.now) panel.old weights.old ≡ 0 }
+    requires turnovers_in_bounds { (length frame.now.turnovers.now ≤ N) × (N ≤ most_frame) }
+    ensures size { IsSize (enlarged_group frame.now.numbers.now frame.now.turnovers.now z (keeping_of keeping.now)) result }
+    ensures panel_after { panel.new ≡ numbers_over (method_of method) (frame_of frame.now)
+        (enlarged_group frame.now.numbers.now frame.now.turnovers.now z (keeping_of keeping.now)) start panel.old }
+    ensures weights_after { weights.new ≡ weights_over (method_of method) (frame_of frame.now)
+        (enlarged_group frame.now.numbers.now frame.now.turnovers.now z (keeping_of keeping.now)) start weights.old }
+{
+    let mut gaps = [0u64; N];
+    let mut marks = [0u8; N];
+    draw_with(
+        method, frame, z, start, keeping, &mut gaps, &mut marks, panel, weights,
+    )
 }
 
 // Draws the panel of a frame that no refusal stops. Room for the largest frame is not laid out for a small one.
 fn draw_panel(
     method: Method,
-    numbers: &[u32],
-    turnovers: &[u64],
-    randoms: &[u32],
+    frame: &Frame,
     z: usize,
     start: u32,
-    threshold: u32,
-    first: &[u32],
-    second: &[u32],
+    keeping: &Keeping,
     panel: &mut [u32],
     weights: &mut [u64],
 ) -> Group
-    requires { kept_draw_refusal (frame numbers.now turnovers.now randoms.now) z start (keeping threshold first.now second.now) panel.old weights.old ≡ 0 }
-    ensures size { IsSize (enlarged_group numbers.now turnovers.now z (keeping threshold first.now second.now)) result }
-    ensures panel_after { panel.new ≡ numbers_over (method_of method) (frame numbers.now turnovers.now randoms.now)
-        (enlarged_group numbers.now turnovers.now z (keeping threshold first.now second.now)) start panel.old }
-    ensures weights_after { weights.new ≡ weights_over (method_of method) (frame numbers.now turnovers.now randoms.now)
-        (enlarged_group numbers.now turnovers.now z (keeping threshold first.now second.now)) start weights.old }
+    requires { kept_draw_refusal (frame_of frame.now) z start (keeping_of keeping.now) panel.old weights.old ≡ 0 }
+    ensures size { IsSize (enlarged_group frame.now.numbers.now frame.now.turnovers.now z (keeping_of keeping.now)) result }
+    ensures panel_after { panel.new ≡ numbers_over (method_of method) (frame_of frame.now)
+        (enlarged_group frame.now.numbers.now frame.now.turnovers.now z (keeping_of keeping.now)) start panel.old }
+    ensures weights_after { weights.new ≡ weights_over (method_of method) (frame_of frame.now)
+        (enlarged_group frame.now.numbers.now frame.now.turnovers.now z (keeping_of keeping.now)) start weights.old }
 {
-    if turnovers.len() <= SMALL_FRAME {
-        let mut few = [0u64; SMALL_FRAME];
-        let mut ones = [0u8; SMALL_FRAME];
-        return draw_with(
-            method, numbers, turnovers, randoms, z, start, threshold, first, second, &mut few,
-            &mut ones, panel, weights,
-        );
+    if frame.turnovers.len() <= SMALL_FRAME {
+        return draw_in::<SMALL_FRAME>(method, frame, z, start, keeping, panel, weights);
     }
-    let mut gaps = [0u64; MOST_FRAME];
-    let mut marks = [0u8; MOST_FRAME];
-    draw_with(
-        method, numbers, turnovers, randoms, z, start, threshold, first, second, &mut gaps,
-        &mut marks, panel, weights,
-    )
+    draw_in::<MOST_FRAME>(method, frame, z, start, keeping, panel, weights)
 }
 
 // Draws z units by the keys of a method, with the group that a threshold and the take-all lists of up to two previous draws enlarge: writes their numbers, in
-// rising order, and their W into the first z places of the two lent buffers; answers n and X. An empty list is no list.
+// rising order, and their W into the first z places of the two lent buffers; answers n and X.
 pub fn draw_kept(
     method: Method,
-    numbers: &[u32],
-    turnovers: &[u64],
-    randoms: &[u32],
+    frame: &Frame,
     z: usize,
     start: u32,
-    threshold: u32,
-    first: &[u32],
-    second: &[u32],
+    keeping: &Keeping,
     panel: &mut [u32],
     weights: &mut [u64],
-) -> Answer
-    ensures result_value { answer_from result ≡ kept_draw_answer (frame numbers.now turnovers.now randoms.now) z start
-        (keeping threshold first.now second.now) panel.old weights.old }
-    ensures panel_after { panel.new ≡ kept_draw_numbers (method_of method) (frame numbers.now turnovers.now randoms.now) z start
-        (keeping threshold first.now second.now) panel.old weights.old }
-    ensures weights_after { weights.new ≡ kept_draw_weights (method_of method) (frame numbers.now turnovers.now randoms.now) z start
-        (keeping threshold first.now second.now) panel.old weights.old }
+) -> Result<Drawn, Refusal>
+    ensures result_value { answer_from result ≡ kept_draw_answer (frame_of frame.now) z start (keeping_of keeping.now) panel.old weights.old }
+    ensures panel_after { panel.new ≡ kept_draw_numbers (method_of method) (frame_of frame.now) z start (keeping_of keeping.now) panel.old weights.old }
+    ensures weights_after { weights.new ≡ kept_draw_weights (method_of method) (frame_of frame.now) z start (keeping_of keeping.now) panel.old weights.old }
 {
-    let verdict = judge(
-        numbers, turnovers, randoms, z, start, threshold, first, second, panel, weights,
-    );
-    match verdict {
-        Verdict::Refused(why) => Answer::Refused(why),
-        Verdict::Accepted => {
-            let g = draw_panel(
-                method, numbers, turnovers, randoms, z, start, threshold, first, second, panel,
-                weights,
-            );
-            Answer::Drawn {
-                n: g.n,
-                rest: g.rest,
-            }
-        }
-    }
+    judge(frame, z, start, keeping, panel, weights)?;
+    let Group { n, rest, .. } = draw_panel(method, frame, z, start, keeping, panel, weights);
+    Ok(Drawn { n, rest })
 }
 
 // Draws z units by the keys of a method, with no previous lists: the group is the base search's.
 pub fn draw_by(
     method: Method,
-    numbers: &[u32],
-    turnovers: &[u64],
-    randoms: &[u32],
+    frame: &Frame,
     z: usize,
     start: u32,
     panel: &mut [u32],
     weights: &mut [u64],
-) -> Answer
-    ensures result_value { answer_from result ≡ draw_answer (frame numbers.now turnovers.now randoms.now) z start panel.old weights.old }
-    ensures panel_after { panel.new ≡ draw_numbers_by (method_of method) (frame numbers.now turnovers.now randoms.now) z start panel.old weights.old }
-    ensures weights_after { weights.new ≡ draw_weights_by (method_of method) (frame numbers.now turnovers.now randoms.now) z start panel.old weights.old }
+) -> Result<Drawn, Refusal>
+    ensures result_value { answer_from result ≡ draw_answer (frame_of frame.now) z start panel.old weights.old }
+    ensures panel_after { panel.new ≡ draw_numbers_by (method_of method) (frame_of frame.now) z start panel.old weights.old }
+    ensures weights_after { weights.new ≡ draw_weights_by (method_of method) (frame_of frame.now) z start panel.old weights.old }
 {
-    draw_kept(
-        method,
-        numbers,
-        turnovers,
-        randoms,
-        z,
-        start,
-        THRESHOLD_SCALE,
-        &numbers[..0],
-        &numbers[..0],
-        panel,
-        weights,
-    )
+    let none = Keeping {
+        threshold: THRESHOLD_SCALE,
+        first: &[],
+        second: &[],
+    };
+    draw_kept(method, frame, z, start, &none, panel, weights)
 }
 
 // The Pareto draw.
 pub fn draw(
-    numbers: &[u32],
-    turnovers: &[u64],
-    randoms: &[u32],
+    frame: &Frame,
     z: usize,
     start: u32,
     panel: &mut [u32],
     weights: &mut [u64],
-) -> Answer
-    ensures result_value { answer_from result ≡ draw_answer (frame numbers.now turnovers.now randoms.now) z start panel.old weights.old }
-    ensures panel_after { panel.new ≡ draw_numbers (frame numbers.now turnovers.now randoms.now) z start panel.old weights.old }
-    ensures weights_after { weights.new ≡ draw_weights (frame numbers.now turnovers.now randoms.now) z start panel.old weights.old }
+) -> Result<Drawn, Refusal>
+    ensures result_value { answer_from result ≡ draw_answer (frame_of frame.now) z start panel.old weights.old }
+    ensures panel_after { panel.new ≡ draw_numbers (frame_of frame.now) z start panel.old weights.old }
+    ensures weights_after { weights.new ≡ draw_weights (frame_of frame.now) z start panel.old weights.old }
 {
-    draw_by(
-        Method::Pareto,
-        numbers,
-        turnovers,
-        randoms,
-        z,
-        start,
-        panel,
-        weights,
-    )
+    draw_by(Method::Pareto, frame, z, start, panel, weights)
 }

@@ -4,12 +4,13 @@
 
 ghost use Rattle.std.specs.Prelude.{◌≡◌};
 ghost use Rattle.rules.specs.Lists.{rising, any_of};
-ghost use Rattle.rules.specs.TakeAll.{frame, bad_count, bad_turnovers, bad_size};
+ghost use Rattle.rules.specs.TakeAll.{bad_count, bad_turnovers, bad_size};
 ghost use Rattle.rules.specs.Draw.{bad_lists, bad_random, frame_refusal};
-ghost use Rattle.refusals.specs.Number.{verdict_of};
+ghost use Rattle.refusals.specs.Number.{refusal_of};
+ghost use Rattle.frame.specs.Frame.{frame_of};
 
 use limits::{MOST_FRAME, MOST_PANEL, MOST_TURNOVER, RANDOM_RANGE};
-use refusals::{Refusal, Verdict};
+use refusals::Refusal;
 
 // The three lists of a frame, as a caller lends them.
 #[derive(Clone, Copy)]
@@ -30,16 +31,16 @@ pub fn bad_count(turnovers: &[u64]) -> bool
 }
 
 // "frame lists unequal, empty or over 16,384"
-pub fn bad_lists(numbers: &[u32], turnovers: &[u64], randoms: &[u32]) -> bool
-    ensures { result ≡ bad_lists (frame numbers.now turnovers.now randoms.now) }
+pub fn bad_lists(frame: &Frame) -> bool
+    ensures { result ≡ bad_lists (frame_of frame.now) }
 {
-    if numbers.len() != turnovers.len() {
+    if frame.numbers.len() != frame.turnovers.len() {
         return true;
     }
-    if randoms.len() != turnovers.len() {
+    if frame.randoms.len() != frame.turnovers.len() {
         return true;
     }
-    bad_count(turnovers)
+    bad_count(frame.turnovers)
 }
 
 // "strictly rising": a fall is noted and asked at the end, so that the pass has no way out and takes several numbers at once
@@ -107,26 +108,26 @@ pub fn bad_size(turnovers: &[u64], z: usize) -> bool
 }
 
 // Refusals 1 to 5, which draw and rotation share: the lowest that applies.
-pub fn judge(numbers: &[u32], turnovers: &[u64], randoms: &[u32], z: usize, start: u32) -> Verdict
-    ensures { verdict_of result ≡ frame_refusal (frame numbers.now turnovers.now randoms.now) z start }
+pub fn judge(frame: &Frame, z: usize, start: u32) -> Result<(), Refusal>
+    ensures { refusal_of result ≡ frame_refusal (frame_of frame.now) z start }
 {
-    if bad_lists(numbers, turnovers, randoms) {
-        return Verdict::Refused(Refusal::FrameLists);
+    if bad_lists(frame) {
+        return Err(Refusal::FrameLists);
     }
-    if !rising(numbers) {
-        return Verdict::Refused(Refusal::UnitNumbers);
+    if !rising(frame.numbers) {
+        return Err(Refusal::UnitNumbers);
     }
-    if bad_turnovers(turnovers) {
-        return Verdict::Refused(Refusal::Turnovers);
+    if bad_turnovers(frame.turnovers) {
+        return Err(Refusal::Turnovers);
     }
-    if bad_randoms(randoms) {
-        return Verdict::Refused(Refusal::RandomNumbers);
+    if bad_randoms(frame.randoms) {
+        return Err(Refusal::RandomNumbers);
     }
     if RANDOM_RANGE <= start {
-        return Verdict::Refused(Refusal::RandomNumbers);
+        return Err(Refusal::RandomNumbers);
     }
-    if bad_size(turnovers, z) {
-        return Verdict::Refused(Refusal::PanelSize);
+    if bad_size(frame.turnovers, z) {
+        return Err(Refusal::PanelSize);
     }
-    Verdict::Accepted
+    Ok(())
 }

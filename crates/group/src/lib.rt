@@ -9,7 +9,7 @@ ghost use Rattle.group_least.specs.Size.{Sized, has_least};
 ghost use Rattle.group.specs.Group.{no_unit, marks_of, IsGroup};
 
 // The take-all group as a value: q units; n more are sampled, and rest is X. Who the q are stands in the marks.
-#[derive(Drop)]
+#[derive(Clone, Copy)]
 pub struct Group {
     pub q: usize,
     pub n: usize,

@@ -2,7 +2,8 @@
 #![tactic(auto)]
 
 ghost use Rattle.std.specs.Prelude.{◌≡◌};
-ghost use Rattle.rules.specs.Kept.{keeping, bad_list, bad_keeping};
+ghost use Rattle.rules.specs.Kept.{bad_list, bad_keeping};
+ghost use Rattle.group_keeping.specs.Keeping.{keeping_of};
 
 use limits::{MOST_PANEL, THRESHOLD_SCALE};
 
@@ -25,17 +26,17 @@ fn bad_list(list: &[u32]) -> bool
 }
 
 // 30: "γ is 0 or over 1,000, or a previous list is over 100 or not rising"
-pub fn bad_keeping(threshold: u32, first: &[u32], second: &[u32]) -> bool
-    ensures { result ≡ bad_keeping (keeping threshold first.now second.now) }
+pub fn bad_keeping(keeping: &Keeping) -> bool
+    ensures { result ≡ bad_keeping (keeping_of keeping.now) }
 {
-    if threshold == 0 {
+    if keeping.threshold == 0 {
         return true;
     }
-    if THRESHOLD_SCALE < threshold {
+    if THRESHOLD_SCALE < keeping.threshold {
         return true;
     }
-    if bad_list(first) {
+    if bad_list(keeping.first) {
         return true;
     }
-    bad_list(second)
+    bad_list(keeping.second)
 }

@@ -3,11 +3,12 @@
 #![tactic(auto)]
 
 ghost use Rattle.std.specs.Prelude.{◌≡◌, ◌-◌, ◌≤◌, min, length};
-ghost use Rattle.rules.specs.Kept.{keeping};
+ghost use Rattle.group_keeping.specs.Keeping.{keeping_of};
 ghost use Rattle.group_kept.specs.Kept.{Enlargeable, IsEnlarged, turnover_of, Outside};
 
 use group::Group;
 use group_border::TWO_LISTS;
+use group_keeping::Keeping;
 
 // "At most n are kept"
 fn at_most(n: usize, many: usize) -> usize
@@ -39,13 +40,11 @@ pub fn find_enlarged(
     numbers: &[u32],
     turnovers: &[u64],
     z: usize,
-    threshold: u32,
-    first: &[u32],
-    second: &[u32],
+    keeping: &Keeping,
     marks: &mut [u8],
 ) -> Group
-    requires { Enlargeable numbers.now turnovers.now z (keeping threshold first.now second.now) × (length turnovers.now ≤ length marks.old) }
-    ensures { IsEnlarged numbers.now turnovers.now z (keeping threshold first.now second.now) marks.new result }
+    requires { Enlargeable numbers.now turnovers.now z (keeping_of keeping.now) × (length turnovers.now ≤ length marks.old) }
+    ensures { IsEnlarged numbers.now turnovers.now z (keeping_of keeping.now) marks.new result }
 {
     let g = group::find_group(turnovers, z, marks);
     let mut places = [0usize; TWO_LISTS];
@@ -53,11 +52,11 @@ pub fn find_enlarged(
         numbers,
         turnovers,
         marks,
-        threshold,
+        keeping.threshold,
         g.n,
         g.rest,
-        first,
-        second,
+        keeping.first,
+        keeping.second,
         &mut places,
     );
     let kept = at_most(g.n, many);

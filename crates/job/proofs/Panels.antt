@@ -7,6 +7,7 @@ use mathlib.Core.List.{List}
 use lib.ListN.{length, take, drop}
 use lib.Seq.{take_at}
 use borrow.Author.Tests.{le-ltb}
+use Rattle.std.specs.Prelude.{Result, Ok, Err}
 use Rattle.refusals.specs.declared.Refusal.{Refusal}
 use Rattle.refusals.specs.Number.{number_of}
 use Rattle.rules.specs.Limits.{most_held}
@@ -18,8 +19,7 @@ use Rattle.rules.specs.Job.{on_draw, step}
 use Rattle.rules.proofs.Tests.{or_off}
 use Rattle.rules.proofs.Refusals.{refuse_off, then_stops, then_goes, given_tells, refused_tells}
 use Rattle.frame.proofs.Accepted.{accepted}
-use Rattle.draw.specs.declared.Answer.{Answer}
-use Rattle.draw.specs.declared.Answer.TheVariants as DrawAnswer
+use Rattle.draw.specs.declared.Drawn.{Drawn as Sampled}
 use Rattle.draw.specs.Answer.{answer_from}
 use Rattle.draw.proofs.Intended.{z_numbers, z_weights}
 use Rattle.job_state.specs.declared.Job.{Job}
@@ -64,29 +64,29 @@ module _ (j : Job) (z start : ℕ) (places : Sized j) (units : ℕ) (e : units �
       let r = lent j.randoms units j.units most_held places.randoms e in
       cc
 
-  module _ (told : Answer) (a : answer_from told ≡ draw_answer part z start (each 0) (each 0)) where
+  module _ (told : Result Sampled Refusal) (is : answer_from told ≡ draw_answer part z start (each 0) (each 0)) where
     abbrev answer : Drawn
     answer = record { sample_size = g.sample_size; rest = g.rest }
 
-    answered : (x : Answer) → told ≡ x → answer_from x ≡ judged (frame_refusal f z start) answer
+    answered : (x : Result Sampled Refusal) → told ≡ x → answer_from x ≡ judged (frame_refusal f z start) answer
     unfolding draw_answer
     answered x t =
-        sym (ap answer_from t) ∙ a ∙ ap (λ (y : Frame). draw_answer y z start (each 0) (each 0)) same_frame
+        sym (ap answer_from t) ∙ is ∙ ap (λ (y : Frame). draw_answer y z start (each 0) (each 0)) same_frame
         ∙ ap (λ (n : ℕ). judged n answer) (room f z start)
 
-    pub draw_refused : (r : Stepped) (why : Refusal) → told ≡ DrawAnswer.Refused why → r ≡ plain_step j (Refused why)
+    pub draw_refused : (r : Stepped) (why : Refusal) → told ≡ Err why → r ≡ plain_step j (Refused why)
         → Steps j (Command.draw z start) r
     unfolding step on_draw
     draw_refused r why t p =
         let number = refused_tells (frame_refusal f z start) (number_of why) answer (answered _ t) in
         refused_step j _ (frame_refusal f z start) _ _ r refl why number p
 
-    pub draw_accepted : (n x : ℕ) (left : Job) (ns ws : List ℕ) → told ≡ DrawAnswer.Drawn n x → ns ≡ draw_numbers part z start (each 0) (each 0)
+    pub draw_accepted : (a : Sampled) (left : Job) (ns ws : List ℕ) → told ≡ Ok a → ns ≡ draw_numbers part z start (each 0) (each 0)
         → ws ≡ draw_weights part z start (each 0) (each 0) → left ≡ panel_held j z ws
         → Steps j (Command.draw z start) (record { job = left; says = Panel; numbers = ns })
     unfolding step on_draw draw_numbers_by draw_weights_by
-    draw_accepted n x left ns ws t d w l =
-        let none = (given_tells (frame_refusal f z start) answer (record { sample_size = n; rest = x }) (answered _ t)).0 in
+    draw_accepted a left ns ws t d w l =
+        let none = (given_tells (frame_refusal f z start) answer (record { sample_size = a.n; rest = a.rest }) (answered _ t)).0 in
         let ok : draw_refusal f z start (each 0) (each 0) ≡ 0 = room f z start ∙ none in
         let all : (news : List ℕ) → written (draw_refusal f z start (each 0) (each 0)) news (each 0) ≡ written 0 news (each 0) =
         λ news. ap (λ (m : ℕ). written m news (each 0)) ok in

@@ -6,7 +6,7 @@ ghost use Rattle.stream_read.specs.Value.{command_from};
 ghost use Rattle.job_state.specs.Steps.{Steps};
 
 use chain::Kind;
-use draw::Answer;
+use frame::Frame;
 use job_state::{Job, Saying, Stepped, said};
 use limits::{MOST_HELD, MOST_PANEL};
 use stream_read::Command;
@@ -22,18 +22,14 @@ pub fn on_draw(job: Job, size: u8, start: u32) -> Stepped
     let randoms = job.randoms;
     let mut panel = [0u32; MOST_PANEL];
     let mut weights = [0u64; MOST_PANEL];
-    let answer = draw::draw(
-        &numbers[..units],
-        &turnovers[..units],
-        &randoms[..units],
-        z,
-        start,
-        &mut panel,
-        &mut weights,
-    );
-    match answer {
-        Answer::Refused(why) => said(job, Saying::Refused(why)),
-        Answer::Drawn { n: _, rest: _ } => Stepped {
+    let frame = Frame {
+        numbers: &numbers[..units],
+        turnovers: &turnovers[..units],
+        randoms: &randoms[..units],
+    };
+    match draw::draw(&frame, z, start, &mut panel, &mut weights) {
+        Err(why) => said(job, Saying::Refused(why)),
+        Ok(_) => Stepped {
             job: job_state::drawn(job, z, weights),
             says: Saying::Panel,
             numbers: panel,

@@ -1,10 +1,10 @@
 -- What `rotate` answers, in the words of `rules`.
+use Rattle.std.specs.Prelude.{Result}
 use Rattle.rules.specs.Refusals.{Judged}
-use Rattle.rules.specs.Rotation.{Rotated}
-use Rattle.refusals.specs.Number.{number_of}
-use Rattle.rotation.specs.declared.Answer.{Answer}
-use Rattle.rotation.specs.declared.Answer.TheVariants.{Rotated as Turned, Refused}
+use Rattle.rules.specs.Rotation as rules
+use Rattle.refusals.specs.declared.Refusal.{Refusal}
+use Rattle.refusals.specs.Number.{answer_of}
+use Rattle.rotation.specs.declared.Rotated.{Rotated}
 
-abbrev pub answer_from : Answer → Judged Rotated
-answer_from (Turned k start count) = Judged.given (record { step = k; start = start; leaving = count })
-answer_from (Refused why) = Judged.refused (number_of why)
+abbrev pub answer_from : Result Rotated Refusal → Judged rules.Rotated
+answer_from = answer_of (λ (r : Rotated). record { step = r.k; start = r.start; leaving = r.count })

@@ -6,22 +6,27 @@
 ghost use Rattle.std.specs.Prelude.{◌≡◌, ◌≤◌};
 ghost use Rattle.rules.specs.Limits.{most_frame, fraction_scale};
 ghost use Rattle.rules.specs.Refusals.{◌then◌};
-ghost use Rattle.rules.specs.TakeAll.{frame};
 ghost use Rattle.rules.specs.Draw.{frame_refusal};
-ghost use Rattle.rules.specs.Kept.{keeping};
-ghost use Rattle.rules.specs.Rotation.{born, required, rotation_answer_by, rotation_leavers_by, rotation_answer, rotation_leavers, kept_lists_refusal, kept_rotation_answer, kept_rotation_leavers};
+ghost use Rattle.rules.specs.Rotation.{required, rotation_answer_by, rotation_leavers_by, rotation_answer, rotation_leavers, kept_lists_refusal, kept_rotation_answer, kept_rotation_leavers};
+ghost use Rattle.frame.specs.Frame.{frame_of};
+ghost use Rattle.group_keeping.specs.Keeping.{keeping_of};
 ghost use Rattle.draw_key.specs.Methods.{method_of};
+ghost use Rattle.rotation_births.specs.Candidates.{births_of};
 ghost use Rattle.rotation.specs.Answer.{answer_from};
 
 use draw_key::{Method, Setting};
+use frame::Frame;
+use group_keeping::Keeping;
 use limits::{FRACTION_SCALE, MOST_FRAME, STEPS, THRESHOLD_SCALE};
-use refusals::{Refusal, Verdict};
-use rotation_births::Previous;
+use refusals::Refusal;
+use rotation_births::Candidates;
 
-#[derive(Drop)]
-pub enum Answer {
-    Rotated { k: u32, start: u32, count: usize },
-    Refused(Refusal),
+// What a rotation answers: the step, the new start and the count of the leavers.
+#[derive(Clone, Copy)]
+pub struct Rotated {
+    pub k: u32,
+    pub start: u32,
+    pub count: usize,
 }
 
 // "f × members / 1,000, rounded up"
@@ -30,186 +35,118 @@ fn required(fraction: u32, members: usize) -> usize
     ensures { result ≡ required fraction members }
 {
     let thousandths = (fraction as usize) * members;
-    let scale = FRACTION_SCALE as usize;
-    (thousandths + (scale - 1)) / scale
+    thousandths.div_ceil(FRACTION_SCALE as usize)
 }
 
 // Rotates what refusals 1 to 6, 30, 7, 25 and 26 let pass, from the old start on.
 fn turn(
     method: Method,
-    numbers: &[u32],
-    turnovers: &[u64],
-    randoms: &[u32],
+    frame: &Frame,
     z: usize,
-    panel: &[u32],
+    candidates: &Candidates,
     fraction: u32,
-    previous: Previous,
-    births: &[u32],
-    threshold: u32,
-    first: &[u32],
-    second: &[u32],
+    keeping: &Keeping,
     leavers: &mut [u32],
-) -> Answer
-    requires { (frame_refusal (frame numbers.now turnovers.now randoms.now) z previous.start
-        then kept_lists_refusal numbers.now panel.now fraction (born previous.n previous.rest births.now)
-        (keeping threshold first.now second.now) leavers.old) ≡ 0 }
-    ensures result_value { answer_from result ≡ kept_rotation_answer (method_of method) (frame numbers.now turnovers.now randoms.now) z previous.start
-        panel.now fraction (born previous.n previous.rest births.now)
-        (keeping threshold first.now second.now) leavers.old }
-    ensures leavers_after { leavers.new ≡ kept_rotation_leavers (method_of method) (frame numbers.now turnovers.now randoms.now) z previous.start
-        panel.now fraction (born previous.n previous.rest births.now)
-        (keeping threshold first.now second.now) leavers.old }
+) -> Result<Rotated, Refusal>
+    requires { (frame_refusal (frame_of frame.now) z candidates.now.previous.start
+        then kept_lists_refusal frame.now.numbers.now candidates.now.panel.now fraction (births_of candidates.now)
+        (keeping_of keeping.now) leavers.old) ≡ 0 }
+    ensures result_value { answer_from result ≡ kept_rotation_answer (method_of method) (frame_of frame.now) z candidates.now.previous.start
+        candidates.now.panel.now fraction (births_of candidates.now) (keeping_of keeping.now) leavers.old }
+    ensures leavers_after { leavers.new ≡ kept_rotation_leavers (method_of method) (frame_of frame.now) z candidates.now.previous.start
+        candidates.now.panel.now fraction (births_of candidates.now) (keeping_of keeping.now) leavers.old }
 {
     let mut marks = [0u8; MOST_FRAME];
-    let g = group_kept::find_enlarged(numbers, turnovers, z, threshold, first, second, &mut marks);
+    let g = group_kept::find_enlarged(frame.numbers, frame.turnovers, z, keeping, &mut marks);
     let mut gaps = [0u64; MOST_FRAME];
-    draw_gaps::fill(turnovers, &marks, method, g.n, g.rest, &mut gaps);
+    draw_gaps::fill(frame.turnovers, &marks, method, g.n, g.rest, &mut gaps);
     let mut places = [0usize; MOST_FRAME];
-    let many = rotation_members::members(
-        numbers,
-        turnovers,
-        randoms,
-        &marks,
-        panel,
-        previous,
-        births,
-        &mut places,
-    );
+    let many = rotation_members::members(frame, &marks, candidates, &mut places);
     let need = required(fraction, many);
     let s = Setting {
         method,
-        start: previous.start,
+        start: candidates.previous.start,
         n: g.n,
         rest: g.rest,
     };
     let found = &places[..many];
-    let k = rotation_step::first_step(turnovers, randoms, &gaps, found, s, z, need);
+    let k = rotation_step::first_step(frame.turnovers, frame.randoms, &gaps, found, s, z, need);
     if STEPS <= k {
-        return Answer::Refused(Refusal::NoStep);
+        return Err(Refusal::NoStep);
     }
     let at = rotation_step::setting_at(s, k);
-    let count = rotation_leavers::write(numbers, turnovers, randoms, &gaps, found, at, z, leavers);
-    Answer::Rotated {
+    let count = rotation_leavers::write(
+        frame.numbers,
+        frame.turnovers,
+        frame.randoms,
+        &gaps,
+        found,
+        at,
+        z,
+        leavers,
+    );
+    Ok(Rotated {
         k,
         start: at.start,
         count,
-    }
+    })
 }
 
-// Rotation by the keys of a method, with the group that a threshold and the take-all lists of up to two previous draws enlarge (an empty list is no list).
-// Answers the smallest step, the new start and the count of the leavers, whose unit numbers are written to the front of the buffer, by falling turnover,
-// equal turnovers by lower number; or the first refusal that applies, and then the buffer is as it was. `size` and `rest` are the previous sampled count n'
-// and the previous rest turnover X'; with no births the members are the old panel's alone.
+// Rotation by the keys of a method, with the group that a threshold and the take-all lists of up to two previous draws enlarge. Answers the smallest step,
+// the new start and the count of the leavers, whose unit numbers are written to the front of the buffer, by falling turnover, equal turnovers by lower
+// number; or the first refusal that applies, and then the buffer is as it was. With no births the members are the old panel's alone.
 pub fn rotate_kept(
     method: Method,
-    numbers: &[u32],
-    turnovers: &[u64],
-    randoms: &[u32],
+    frame: &Frame,
     z: usize,
-    old: u32,
-    panel: &[u32],
+    candidates: &Candidates,
     fraction: u32,
-    size: usize,
-    rest: u64,
-    births: &[u32],
-    threshold: u32,
-    first: &[u32],
-    second: &[u32],
+    keeping: &Keeping,
     leavers: &mut [u32],
-) -> Answer
-    ensures result_value { answer_from result ≡ kept_rotation_answer (method_of method) (frame numbers.now turnovers.now randoms.now) z old
-        panel.now fraction (born size rest births.now) (keeping threshold first.now second.now) leavers.old }
-    ensures leavers_after { leavers.new ≡ kept_rotation_leavers (method_of method) (frame numbers.now turnovers.now randoms.now) z old
-        panel.now fraction (born size rest births.now) (keeping threshold first.now second.now) leavers.old }
+) -> Result<Rotated, Refusal>
+    ensures result_value { answer_from result ≡ kept_rotation_answer (method_of method) (frame_of frame.now) z candidates.now.previous.start
+        candidates.now.panel.now fraction (births_of candidates.now) (keeping_of keeping.now) leavers.old }
+    ensures leavers_after { leavers.new ≡ kept_rotation_leavers (method_of method) (frame_of frame.now) z candidates.now.previous.start
+        candidates.now.panel.now fraction (births_of candidates.now) (keeping_of keeping.now) leavers.old }
 {
-    let previous = Previous {
-        start: old,
-        n: size,
-        rest,
-    };
-    let verdict = rotation_judge::judge(
-        numbers, turnovers, randoms, z, panel, fraction, previous, births, threshold, first,
-        second, leavers,
-    );
-    match verdict {
-        Verdict::Refused(why) => Answer::Refused(why),
-        Verdict::Accepted => turn(
-            method, numbers, turnovers, randoms, z, panel, fraction, previous, births, threshold,
-            first, second, leavers,
-        ),
-    }
+    rotation_judge::judge(frame, z, candidates, fraction, keeping, leavers)?;
+    turn(method, frame, z, candidates, fraction, keeping, leavers)
 }
 
 // Rotation by the keys of a method with no previous lists: the group is the base search's.
 pub fn rotate_by(
     method: Method,
-    numbers: &[u32],
-    turnovers: &[u64],
-    randoms: &[u32],
+    frame: &Frame,
     z: usize,
-    old: u32,
-    panel: &[u32],
+    candidates: &Candidates,
     fraction: u32,
-    size: usize,
-    rest: u64,
-    births: &[u32],
     leavers: &mut [u32],
-) -> Answer
-    ensures result_value { answer_from result ≡ rotation_answer_by (method_of method) (frame numbers.now turnovers.now randoms.now) z old
-        panel.now fraction (born size rest births.now) leavers.old }
-    ensures leavers_after { leavers.new ≡ rotation_leavers_by (method_of method) (frame numbers.now turnovers.now randoms.now) z old
-        panel.now fraction (born size rest births.now) leavers.old }
+) -> Result<Rotated, Refusal>
+    ensures result_value { answer_from result ≡ rotation_answer_by (method_of method) (frame_of frame.now) z candidates.now.previous.start
+        candidates.now.panel.now fraction (births_of candidates.now) leavers.old }
+    ensures leavers_after { leavers.new ≡ rotation_leavers_by (method_of method) (frame_of frame.now) z candidates.now.previous.start
+        candidates.now.panel.now fraction (births_of candidates.now) leavers.old }
 {
-    rotate_kept(
-        method,
-        numbers,
-        turnovers,
-        randoms,
-        z,
-        old,
-        panel,
-        fraction,
-        size,
-        rest,
-        births,
-        THRESHOLD_SCALE,
-        &panel[..0],
-        &panel[..0],
-        leavers,
-    )
+    let none = Keeping {
+        threshold: THRESHOLD_SCALE,
+        first: &[],
+        second: &[],
+    };
+    rotate_kept(method, frame, z, candidates, fraction, &none, leavers)
 }
 
 // Rotation by Pareto keys.
 pub fn rotate(
-    numbers: &[u32],
-    turnovers: &[u64],
-    randoms: &[u32],
+    frame: &Frame,
     z: usize,
-    old: u32,
-    panel: &[u32],
+    candidates: &Candidates,
     fraction: u32,
-    size: usize,
-    rest: u64,
-    births: &[u32],
     leavers: &mut [u32],
-) -> Answer
-    ensures result_value { answer_from result ≡ rotation_answer (frame numbers.now turnovers.now randoms.now) z old
-        panel.now fraction (born size rest births.now) leavers.old }
-    ensures leavers_after { leavers.new ≡ rotation_leavers (frame numbers.now turnovers.now randoms.now) z old
-        panel.now fraction (born size rest births.now) leavers.old }
+) -> Result<Rotated, Refusal>
+    ensures result_value { answer_from result ≡ rotation_answer (frame_of frame.now) z candidates.now.previous.start
+        candidates.now.panel.now fraction (births_of candidates.now) leavers.old }
+    ensures leavers_after { leavers.new ≡ rotation_leavers (frame_of frame.now) z candidates.now.previous.start
+        candidates.now.panel.now fraction (births_of candidates.now) leavers.old }
 {
-    rotate_by(
-        Method::Pareto,
-        numbers,
-        turnovers,
-        randoms,
-        z,
-        old,
-        panel,
-        fraction,
-        size,
-        rest,
-        births,
-        leavers,
-    )
+    rotate_by(Method::Pareto, frame, z, candidates, fraction, leavers)
 }

@@ -18,35 +18,45 @@ pub struct Previous {
     pub rest: u64,
 }
 
-// "r × X' < 1,000,000 × n' × its turnover, with r shifted by the old start". The right side can be 10^20: where n' × turnover reaches X' a birth joins
-// whatever its r, which is below 1,000,000, unless both are 0; elsewhere both sides are below 10^18.
-pub fn joins(previous: Previous, random: u32, turnover: u64) -> bool
-    requires random_lt_random_range { (random < random_range) × (previous.start < random_range) }
-    requires turnover_le_most_turnover { (turnover ≤ most_turnover) × (bad_previous previous.n previous.rest ≡ false) }
-    ensures { result ≡ within_previous previous.n previous.rest (shifted previous.start random) turnover }
-{
-    let reach = (previous.n as u64) * turnover;
-    if previous.rest <= reach {
-        return 0 < previous.rest;
-    }
-    let r = Permanent(random).shift(previous.start);
-    (r.0 as u64) * previous.rest < (RANDOM_RANGE as u64) * reach
+// Who may be a member of a rotation: the units of the old panel, and births, which join by what the previous draw left.
+#[derive(Clone, Copy)]
+pub struct Candidates<'a> {
+    pub panel: &'a [u32],
+    pub births: &'a [u32],
+    pub previous: Previous,
 }
 
-// 25: "n' is over 100, X' is over 10^12, or X' is 0 while n' is not"
-pub fn bad_previous(n: usize, rest: u64) -> bool
-    ensures { result ≡ bad_previous n rest }
-{
-    if MOST_PANEL < n {
-        return true;
+impl Previous {
+    // "r × X' < 1,000,000 × n' × its turnover, with r shifted by the old start". The right side can be 10^20: where n' × turnover reaches X' a birth joins
+    // whatever its r, which is below 1,000,000, unless both are 0; elsewhere both sides are below 10^18.
+    pub fn joins(self, random: u32, turnover: u64) -> bool
+        requires random_lt_random_range { (random < random_range) × (self.start < random_range) }
+        requires turnover_le_most_turnover { (turnover ≤ most_turnover) × (bad_previous self.n self.rest ≡ false) }
+        ensures { result ≡ within_previous self.n self.rest (shifted self.start random) turnover }
+    {
+        let reach = (self.n as u64) * turnover;
+        if self.rest <= reach {
+            return 0 < self.rest;
+        }
+        let r = Permanent(random).shift(self.start);
+        u64::from(r.0) * self.rest < u64::from(RANDOM_RANGE) * reach
     }
-    if MOST_TURNOVER < rest {
-        return true;
+
+    // 25: "n' is over 100, X' is over 10^12, or X' is 0 while n' is not"
+    pub fn is_bad(self) -> bool
+        ensures { result ≡ bad_previous self.n self.rest }
+    {
+        if MOST_PANEL < self.n {
+            return true;
+        }
+        if MOST_TURNOVER < self.rest {
+            return true;
+        }
+        if self.rest == 0 {
+            return self.n != 0;
+        }
+        false
     }
-    if rest == 0 {
-        return n != 0;
-    }
-    false
 }
 
 // Some unit of the births is not in the frame. Both lists rise, so one pass goes through the two side by side.
@@ -55,13 +65,11 @@ fn outside(numbers: &[u32], births: &[u32]) -> bool
     ensures { result ≡ any_of (λ unit. not (elem unit numbers.now)) births.now }
 {
     let mut j: usize = 0;
-    let mut i: usize = 0;
-    while i < births.len() {
-        j = rotation_seek::seek(numbers, j, births[i]);
-        if !rotation_seek::stands_at(numbers, j, births[i]) {
+    for unit in births {
+        j = rotation_seek::seek(numbers, j, *unit);
+        if !rotation_seek::stands_at(numbers, j, *unit) {
             return true;
         }
-        i += 1;
     }
     false
 }

@@ -5,15 +5,18 @@
 ghost use Rattle.std.specs.Prelude.{◌≡◌, true};
 ghost use Rattle.rules.specs.Refusals.{◌then◌};
 ghost use Rattle.rules.specs.Lists.{rising};
-ghost use Rattle.rules.specs.TakeAll.{frame};
 ghost use Rattle.rules.specs.Draw.{frame_refusal};
-ghost use Rattle.rules.specs.Kept.{keeping};
-ghost use Rattle.rules.specs.Rotation.{born, short_leavers, bad_old_panel, kept_lists_refusal};
-ghost use Rattle.refusals.specs.Number.{verdict_of};
+ghost use Rattle.rules.specs.Rotation.{short_leavers, bad_old_panel, kept_lists_refusal};
+ghost use Rattle.refusals.specs.Number.{refusal_of};
+ghost use Rattle.frame.specs.Frame.{frame_of};
+ghost use Rattle.group_keeping.specs.Keeping.{keeping_of};
+ghost use Rattle.rotation_births.specs.Candidates.{births_of};
 
+use frame::Frame;
+use group_keeping::Keeping;
 use limits::{FRACTION_SCALE, MOST_PANEL};
-use refusals::{Refusal, Verdict};
-use rotation_births::Previous;
+use refusals::Refusal;
+use rotation_births::Candidates;
 
 // 7: "f over 1,000, or old panel over 100 or not rising"
 fn bad_old_panel(panel: &[u32], fraction: u32) -> bool
@@ -33,69 +36,55 @@ fn bad_old_panel(panel: &[u32], fraction: u32) -> bool
 fn short_leavers(panel: &[u32], births: &[u32], leavers: &[u32]) -> bool
     ensures { result ≡ short_leavers panel.now births.now leavers.now }
 {
-    if leavers.len() < panel.len() {
-        return true;
+    match leavers.len().checked_sub(panel.len()) {
+        Some(left) => left < births.len(),
+        None => true,
     }
-    leavers.len() - panel.len() < births.len()
 }
 
 // Refusals 6, 30, 7, 25 and 26, in this order, over a frame whose numbers rise.
 fn judge_lists(
     numbers: &[u32],
-    panel: &[u32],
+    candidates: &Candidates,
     fraction: u32,
-    previous: Previous,
-    births: &[u32],
-    threshold: u32,
-    first: &[u32],
-    second: &[u32],
+    keeping: &Keeping,
     leavers: &[u32],
-) -> Verdict
+) -> Result<(), Refusal>
     requires { rising numbers.now ≡ true }
-    ensures { verdict_of result ≡ kept_lists_refusal numbers.now panel.now fraction
-        (born previous.n previous.rest births.now) (keeping threshold first.now second.now) leavers.now }
+    ensures { refusal_of result ≡ kept_lists_refusal numbers.now candidates.now.panel.now fraction
+        (births_of candidates.now) (keeping_of keeping.now) leavers.now }
 {
-    if short_leavers(panel, births, leavers) {
-        return Verdict::Refused(Refusal::ResultBuffer);
+    if short_leavers(candidates.panel, candidates.births, leavers) {
+        return Err(Refusal::ResultBuffer);
     }
-    if group_keeping::bad_keeping(threshold, first, second) {
-        return Verdict::Refused(Refusal::PreviousLists);
+    if group_keeping::bad_keeping(keeping) {
+        return Err(Refusal::PreviousLists);
     }
-    if bad_old_panel(panel, fraction) {
-        return Verdict::Refused(Refusal::OldPanel);
+    if bad_old_panel(candidates.panel, fraction) {
+        return Err(Refusal::OldPanel);
     }
-    if rotation_births::bad_previous(previous.n, previous.rest) {
-        return Verdict::Refused(Refusal::PreviousSample);
+    if candidates.previous.is_bad() {
+        return Err(Refusal::PreviousSample);
     }
-    if rotation_births::bad_births(numbers, births) {
-        return Verdict::Refused(Refusal::Births);
+    if rotation_births::bad_births(numbers, candidates.births) {
+        return Err(Refusal::Births);
     }
-    Verdict::Accepted
+    Ok(())
 }
 
 // Refusals 1 to 6, 30, 7, 25 and 26: the first that applies. The old start is the previous draw's.
 pub fn judge(
-    numbers: &[u32],
-    turnovers: &[u64],
-    randoms: &[u32],
+    frame: &Frame,
     z: usize,
-    panel: &[u32],
+    candidates: &Candidates,
     fraction: u32,
-    previous: Previous,
-    births: &[u32],
-    threshold: u32,
-    first: &[u32],
-    second: &[u32],
+    keeping: &Keeping,
     leavers: &[u32],
-) -> Verdict
-    ensures { verdict_of result ≡ (frame_refusal (frame numbers.now turnovers.now randoms.now) z previous.start
-        then kept_lists_refusal numbers.now panel.now fraction
-        (born previous.n previous.rest births.now) (keeping threshold first.now second.now) leavers.now) }
+) -> Result<(), Refusal>
+    ensures { refusal_of result ≡ (frame_refusal (frame_of frame.now) z candidates.now.previous.start
+        then kept_lists_refusal frame.now.numbers.now candidates.now.panel.now fraction
+        (births_of candidates.now) (keeping_of keeping.now) leavers.now) }
 {
-    match frame::judge(numbers, turnovers, randoms, z, previous.start) {
-        Verdict::Refused(why) => Verdict::Refused(why),
-        Verdict::Accepted => judge_lists(
-            numbers, panel, fraction, previous, births, threshold, first, second, leavers,
-        ),
-    }
+    frame::judge(frame, z, candidates.previous.start)?;
+    judge_lists(frame.numbers, candidates, fraction, keeping, leavers)
 }

@@ -4,26 +4,27 @@
 
 ghost use Rattle.std.specs.Prelude.{◌≡◌, true, not, ◌+◌, ◌<◌, ◌≤◌, length};
 ghost use Rattle.rules.specs.Lists.{rising};
-ghost use Rattle.rules.specs.TakeAll.{frame};
-ghost use Rattle.rules.specs.Rotation.{born, member};
+ghost use Rattle.rules.specs.Rotation.{member};
+ghost use Rattle.frame.specs.Frame.{frame_of};
 ghost use Rattle.group.specs.Group.{marked};
+ghost use Rattle.rotation_births.specs.Candidates.{births_of};
 ghost use Rattle.rotation_members.specs.Members.{Judgeable, member_of};
 ghost use Rattle.rotation_members.specs.Filled.{Filled};
 
-use rotation_births::Previous;
+use frame::Frame;
+use rotation_births::{Candidates, Previous};
 
 // Unit i is a member, where it is told whether it is of the old panel and whether it is a birth. A unit of both is one because it is of the old panel.
 fn is_member(
-    turnovers: &[u64],
-    randoms: &[u32],
+    frame: &Frame,
     marks: &[u8],
     previous: Previous,
     i: usize,
     old: bool,
     birth: bool,
 ) -> bool
-    requires { Judgeable turnovers.now randoms.now marks.now previous × (i < length turnovers.now) }
-    ensures { result ≡ member_of turnovers.now randoms.now marks.now previous i old birth }
+    requires { Judgeable frame.now.turnovers.now frame.now.randoms.now marks.now previous × (i < length frame.now.turnovers.now) }
+    ensures { result ≡ member_of frame.now.turnovers.now frame.now.randoms.now marks.now previous i old birth }
 {
     if marks[i] == 1 {
         return false;
@@ -32,48 +33,36 @@ fn is_member(
         return true;
     }
     if birth {
-        return rotation_births::joins(previous, randoms[i], turnovers[i]);
+        return previous.joins(frame.randoms[i], frame.turnovers[i]);
     }
     false
 }
 
 // Lists the members' places, rising, in the front of `places`, and gives their number. Frame, old panel and births rise, so one pass goes through the three
 // side by side. Who is take-all is told by the marks.
-pub fn members(
-    numbers: &[u32],
-    turnovers: &[u64],
-    randoms: &[u32],
-    marks: &[u8],
-    panel: &[u32],
-    previous: Previous,
-    births: &[u32],
-    places: &mut [usize],
-) -> usize
-    requires numbers_value { (rising numbers.now ≡ true) × (rising panel.now ≡ true) × (rising births.now ≡ true) }
-    requires judgeable { Judgeable turnovers.now randoms.now marks.now previous }
-    requires numbers_len { (length numbers.now ≡ length turnovers.now) × (length numbers.now ≤ length places.old) }
-    ensures filled { Filled (member (frame numbers.now turnovers.now randoms.now) (marked marks.now) previous.start
-        panel.now (born previous.n previous.rest births.now)) (λ i. i) (length numbers.now)
+pub fn members(frame: &Frame, marks: &[u8], candidates: &Candidates, places: &mut [usize]) -> usize
+    requires numbers_value { (rising frame.now.numbers.now ≡ true) × (rising candidates.now.panel.now ≡ true) × (rising candidates.now.births.now ≡ true) }
+    requires judgeable { Judgeable frame.now.turnovers.now frame.now.randoms.now marks.now candidates.now.previous }
+    requires numbers_len { (length frame.now.numbers.now ≡ length frame.now.turnovers.now) × (length frame.now.numbers.now ≤ length places.old) }
+    ensures filled { Filled (member (frame_of frame.now) (marked marks.now) candidates.now.previous.start
+        candidates.now.panel.now (births_of candidates.now)) (λ i. i) (length frame.now.numbers.now)
         places.old places.new result }
-    ensures upper_bound { result ≤ length panel.now + length births.now }
+    ensures upper_bound { result ≤ length candidates.now.panel.now + length candidates.now.births.now }
 {
     let mut count: usize = 0;
     let mut j: usize = 0;
     let mut b: usize = 0;
-    let mut i: usize = 0;
-    while i < numbers.len() {
-        let number = numbers[i];
-        j = rotation_seek::seek(panel, j, number);
-        b = rotation_seek::seek(births, b, number);
-        let old = rotation_seek::stands_at(panel, j, number);
-        let birth = rotation_seek::stands_at(births, b, number);
-        if is_member(turnovers, randoms, marks, previous, i, old, birth) {
+    for (i, number) in frame.numbers.iter().enumerate() {
+        j = rotation_seek::seek(candidates.panel, j, *number);
+        b = rotation_seek::seek(candidates.births, b, *number);
+        let old = rotation_seek::stands_at(candidates.panel, j, *number);
+        let birth = rotation_seek::stands_at(candidates.births, b, *number);
+        if is_member(frame, marks, candidates.previous, i, old, birth) {
             places[count] = i;
             count += 1;
         }
-        j = rotation_seek::behind(panel, j, number);
-        b = rotation_seek::behind(births, b, number);
-        i += 1;
+        j = rotation_seek::behind(candidates.panel, j, *number);
+        b = rotation_seek::behind(candidates.births, b, *number);
     }
     count
 }

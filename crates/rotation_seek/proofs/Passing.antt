@@ -1,16 +1,21 @@
 -- The pass through two rising lists side by side: a number is in the second list if it stands where the search for it stops, and the next number of the
 -- first goes on from there.
-use mathlib.Core.Path.{◌≡◌, refl, sym, ◌∙◌}
-use mathlib.Core.Bool.{true, false}
+use mathlib.Core.Path.{◌≡◌, refl, sym, ap, ◌∙◌}
+use mathlib.Core.Bool.{Bool, true, false}
 use mathlib.Core.List.{List}
-use Prim.Native.Nat.{ℕ, zero, suc, ◌+◌, ◌≤◌, ◌<◌, zero-le}
+use Prim.Native.Nat.{ℕ, zero, suc, ◌+◌, ◌-◌, ◌≤◌, ◌<◌, zero-le}
 use native.Mathlib.Omega.{arith}
 use native.Mathlib.Numerals.{add-one}
-use lib.ListN.{length, get_or, drop, length-drop}
-use lib.Seq.{get_or-drop}
-use lib.Dec.{ltb, eqb}
+use lib.ListN.{length, get_or, take, drop, length-drop}
+use lib.Seq.{get_or-drop, take-length}
+use lib.Dec.{ltb, leb, eqb}
 use borrow.Author.Count.{below_more}
-use borrow.Author.Tests.{lt-ltb, le-ltb, eqb-true, eqb-false, ltb-true}
+use borrow.Author.Tests.{leb-true, leb-false, lt-ltb, le-ltb, eqb-true, eqb-false, ltb-true}
+use Rattle.std.specs.Prelude.{Some, None}
+use Rattle.std.specs.List.{position, position_or_len}
+use Rattle.std.proofs.lemmas.List.Quantifiers.{position-Some}
+use Rattle.std.proofs.lemmas.List.Sums.{fails_before_first}
+use Rattle.std.proofs.lemmas.Option.{none-some}
 use Rattle.rules.specs.Lists.{rising, elem}
 use Rattle.rules.proofs.Tests.{by_test, by_order, and_on, and_off, and_left, and_right}
 use Rattle.rules.proofs.Lists.{rising_below, elem_here, elem_next, elem_end, elem_low}
@@ -30,6 +35,53 @@ module _ {list : List ℕ} {j x : ℕ} (p : Passed list j x) where
     within = omega arith;
     below = below_more (λ k. get_or list k 0 < y) j (λ k m. omega (arith, p.below k m)) b;
   }
+
+-- the search behind j: the first place that it finds, or none
+module _ (list : List ℕ) (j x : ℕ) (p : Passed list j x) where
+  abbrev reaches : ℕ → Bool
+  reaches y = leb x y
+
+  -- as far as nothing is found the list is passed
+  passed_by : (k : ℕ) → j + k ≤ length list → ((i : ℕ) → i < k → reaches (get_or (drop j list) i 0) ≡ false) → Passed list (j + k) x
+  passed_by k w none = record {
+    within = w;
+    below = λ i l. by_order i j (p.below i) (λ h. let e : j + (i - j) ≡ i = omega (arith, h) in
+        leb-false x _ (rw (ap (λ (n : ℕ). get_or list n 0) (sym e), ← get_or-drop j list (i - j) 0) (none (i - j) (omega (arith, h, l)))));
+  }
+
+  abbrev rest : List ℕ
+  rest = take (length list - j) (drop j list)
+
+  rest_is : rest ≡ drop j list
+  rest_is = rw (← length-drop j list) (take-length (drop j list))
+
+  pub reached_at : (k : ℕ) → position reaches rest ≡ Some k → Reached list j x (j + k)
+  reached_at k e =
+      let found = position-Some reaches (drop j list) k 0 (ap (position reaches) (sym rest_is) ∙ e) in
+      let within = p.within in
+      record {
+        onward = omega arith;
+        passed = passed_by k (omega (arith, found.0, length-drop j list)) found.2;
+        stops = λ l. rw (← get_or-drop j list k 0) (leb-true x _ found.1);
+      }
+
+  somewhere : position_or_len reaches rest < length rest → position reaches rest ≡ Some (position_or_len reaches rest)
+  somewhere l = rw (lt-ltb _ _ l)
+
+  -- nothing found: no place passes
+  past_all : position reaches rest ≡ None → length rest ≤ position_or_len reaches rest
+  past_all e = by_order (position_or_len reaches rest) (length rest) (λ l. absurd (none-some _ (sym e ∙ somewhere l))) (λ h. h)
+
+  pub reached_end : position reaches rest ≡ None → Reached list j x (length list)
+  reached_end e =
+      let within = p.within in
+      let all : j + (length list - j) ≡ length list = omega arith in
+      let none : length (drop j list) ≤ position_or_len reaches (drop j list) = rw (← rest_is) (past_all e) in
+      record {
+        onward = within;
+        passed = rw (← all) (passed_by (length list - j) (omega arith) (λ i l. fails_before_first reaches (drop j list) i 0 (omega (arith, l, none, length-drop j list))));
+        stops = λ l. absurd (omega (arith, l));
+      }
 
 -- a number that has passed j places is looked for behind them alone
 passed_elem : (list : List ℕ) (j x : ℕ) → Passed list j x → elem x (drop j list) ≡ elem x list

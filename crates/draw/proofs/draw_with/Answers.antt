@@ -6,8 +6,9 @@ use native.Mathlib.Omega.{arith}
 use lib.ListN.{length}
 use Rattle.rules.specs.Refusals.{written}
 use Rattle.rules.specs.TakeAll.{Frame}
-use Rattle.rules.specs.Kept.{Keeping, keeping, enlarged_group}
+use Rattle.rules.specs.Kept.{Keeping, enlarged_group}
 use Rattle.group.specs.declared.Group.{Group}
+use Rattle.group_keeping.specs.Keeping.{keeping_of}
 use Rattle.group_kept.specs.Kept.{IsEnlarged}
 use Rattle.group_kept.proofs.Enlarged.{enlarged_sound}
 use Rattle.draw_key.specs.declared.Method.{Method}
@@ -36,7 +37,7 @@ find_enlarged-g-requires c = ((kept_accepted _ _ _ _ _ _ c.requires.weights_valu
 pub fill-requires-clause-turnovers_bound : goal.fill-requires-clause-turnovers_bound
 fill-requires-clause-turnovers_bound c =
     let k = (kept_accepted _ _ _ _ _ _ c.requires.weights_value).drawn.frame_ok.units in
-    let parts = (enlarged_sound c.args.numbers.now c.args.turnovers.now c.args.z k.size_within (keeping c.args.threshold c.args.first.now c.args.second.now)).parts in
+    let parts = (enlarged_sound c.args.frame.now.numbers.now c.args.frame.now.turnovers.now c.args.z k.size_within (keeping_of c.args.keeping.now)).parts in
     (k.total, omega (arith, c.find_enlarged-g.ensures.agrees.size_is, parts, k.size_few))
 
 pub find-found-requires : goal.find-found-requires
@@ -46,7 +47,7 @@ pub write_found-requires : goal.write_found-requires
 write_found-requires c =
     let all = kept_accepted _ _ _ _ _ _ c.requires.weights_value in
     let d = drawing all c.find_enlarged-g.ensures c.fill.ensures in
-    let marks_room : length c.args.turnovers.now ≤ length c.find_enlarged-g.new.marks =
+    let marks_room : length c.args.frame.now.turnovers.now ≤ length c.find_enlarged-g.new.marks =
     omega (arith, c.find_enlarged-g.auto.marks, c.requires.turnovers_in_bounds.1) in
     let w = c.find-found.ensures c.if-found.true in
     let size = panels.found_size d _ w in
@@ -71,7 +72,7 @@ pub write_ordered-requires : goal.write_ordered-requires
 write_ordered-requires c =
     let all = kept_accepted _ _ _ _ _ _ c.requires.weights_value in
     let d = drawing all c.find_enlarged-g.ensures c.fill.ensures in
-    let marks_room : length c.args.turnovers.now ≤ length c.find_enlarged-g.new.marks =
+    let marks_room : length c.args.frame.now.turnovers.now ≤ length c.find_enlarged-g.new.marks =
     omega (arith, c.find_enlarged-g.auto.marks, c.requires.turnovers_in_bounds.1) in
     let size = panels.drawn_size d in
     record {

@@ -4,14 +4,14 @@ use Rattle.rules.specs.Tests.{◌or◌}
 use Rattle.rules.specs.Draw.{bad_lists}
 use Rattle.frame.proofs.bad_lists.Goals as goal
 
-pub returns-then-numbers-turnovers : goal.returns-then-numbers-turnovers
+pub returns-then-frame : goal.returns-then-frame
 unfolding bad_lists ◌or◌
-returns-then-numbers-turnovers c = rw (ne_eqb _ _ c.if-numbers-turnovers.true)
+returns-then-frame c = rw (ne_eqb _ _ c.if-frame.true)
 
-pub returns-then-randoms-turnovers : goal.returns-then-randoms-turnovers
+pub returns-then-frame-2 : goal.returns-then-frame-2
 unfolding bad_lists ◌or◌
-returns-then-randoms-turnovers c = rw (eq-eqb _ _ c.if-numbers-turnovers.false, ne_eqb _ _ c.if-randoms-turnovers.true)
+returns-then-frame-2 c = rw (eq-eqb _ _ c.if-frame.false, ne_eqb _ _ c.if-frame-2.true)
 
 pub returns : goal.returns
 unfolding bad_lists ◌or◌
-returns c = rw (eq-eqb _ _ c.if-numbers-turnovers.false, eq-eqb _ _ c.if-randoms-turnovers.false) c.bad_count.ensures
+returns c = rw (eq-eqb _ _ c.if-frame.false, eq-eqb _ _ c.if-frame-2.false) c.bad_count.ensures

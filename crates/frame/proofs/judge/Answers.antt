@@ -6,8 +6,9 @@ use borrow.Author.Tests.{le-leb, lt-leb}
 use Rattle.rules.specs.Tests.{◌or◌}
 use Rattle.rules.specs.Refusals.{refuse, ◌then◌}
 use Rattle.rules.specs.Lists.{rising, any_of}
-use Rattle.rules.specs.TakeAll.{Frame, frame, bad_turnovers, bad_size}
+use Rattle.rules.specs.TakeAll.{Frame, bad_turnovers, bad_size}
 use Rattle.rules.specs.Draw.{bad_lists, bad_random, frame_refusal}
+use Rattle.frame.specs.Frame.{frame_of}
 use Rattle.frame.proofs.judge.Goals as goal
 
 -- where 1, 2 and 3 let pass, 4 and 5 decide
@@ -30,16 +31,16 @@ returns-then-bad_turnovers c = rw (← c.bad_lists.ensures, c.if-bad_lists.false
 
 pub returns-then-bad_randoms : goal.returns-then-bad_randoms
 unfolding refuse ◌then◌ ◌or◌
-returns-then-bad_randoms c = rw (past_three (frame c.args.numbers.now c.args.turnovers.now c.args.randoms.now) c.args.z c.args.start (sym c.bad_lists.ensures ∙ c.if-bad_lists.false) (sym c.rising.ensures ∙ c.if-not-rising.false) (sym c.bad_turnovers.ensures ∙ c.if-bad_turnovers.false), ← c.bad_randoms.ensures, c.if-bad_randoms.true)
+returns-then-bad_randoms c = rw (past_three (frame_of c.args.frame.now) c.args.z c.args.start (sym c.bad_lists.ensures ∙ c.if-bad_lists.false) (sym c.rising.ensures ∙ c.if-not-rising.false) (sym c.bad_turnovers.ensures ∙ c.if-bad_turnovers.false), ← c.bad_randoms.ensures, c.if-bad_randoms.true)
 
 pub returns-then-start-ge-RANDOM_RANGE : goal.returns-then-start-ge-RANDOM_RANGE
 unfolding refuse ◌then◌ ◌or◌ bad_random
-returns-then-start-ge-RANDOM_RANGE c = rw (past_three (frame c.args.numbers.now c.args.turnovers.now c.args.randoms.now) c.args.z c.args.start (sym c.bad_lists.ensures ∙ c.if-bad_lists.false) (sym c.rising.ensures ∙ c.if-not-rising.false) (sym c.bad_turnovers.ensures ∙ c.if-bad_turnovers.false), ← c.bad_randoms.ensures, c.if-bad_randoms.false, le-leb _ _ c.if-start-ge-RANDOM_RANGE.true)
+returns-then-start-ge-RANDOM_RANGE c = rw (past_three (frame_of c.args.frame.now) c.args.z c.args.start (sym c.bad_lists.ensures ∙ c.if-bad_lists.false) (sym c.rising.ensures ∙ c.if-not-rising.false) (sym c.bad_turnovers.ensures ∙ c.if-bad_turnovers.false), ← c.bad_randoms.ensures, c.if-bad_randoms.false, le-leb _ _ c.if-start-ge-RANDOM_RANGE.true)
 
 pub returns-then-bad_size : goal.returns-then-bad_size
 unfolding refuse ◌then◌ ◌or◌ bad_random
-returns-then-bad_size c = rw (past_three (frame c.args.numbers.now c.args.turnovers.now c.args.randoms.now) c.args.z c.args.start (sym c.bad_lists.ensures ∙ c.if-bad_lists.false) (sym c.rising.ensures ∙ c.if-not-rising.false) (sym c.bad_turnovers.ensures ∙ c.if-bad_turnovers.false), ← c.bad_randoms.ensures, c.if-bad_randoms.false, lt-leb _ _ c.if-start-ge-RANDOM_RANGE.false, ← c.bad_size.ensures, c.if-bad_size.true)
+returns-then-bad_size c = rw (past_three (frame_of c.args.frame.now) c.args.z c.args.start (sym c.bad_lists.ensures ∙ c.if-bad_lists.false) (sym c.rising.ensures ∙ c.if-not-rising.false) (sym c.bad_turnovers.ensures ∙ c.if-bad_turnovers.false), ← c.bad_randoms.ensures, c.if-bad_randoms.false, lt-leb _ _ c.if-start-ge-RANDOM_RANGE.false, ← c.bad_size.ensures, c.if-bad_size.true)
 
 pub returns : goal.returns
 unfolding refuse ◌then◌ ◌or◌ bad_random
-returns c = rw (past_three (frame c.args.numbers.now c.args.turnovers.now c.args.randoms.now) c.args.z c.args.start (sym c.bad_lists.ensures ∙ c.if-bad_lists.false) (sym c.rising.ensures ∙ c.if-not-rising.false) (sym c.bad_turnovers.ensures ∙ c.if-bad_turnovers.false), ← c.bad_randoms.ensures, c.if-bad_randoms.false, lt-leb _ _ c.if-start-ge-RANDOM_RANGE.false, ← c.bad_size.ensures, c.if-bad_size.false)
+returns c = rw (past_three (frame_of c.args.frame.now) c.args.z c.args.start (sym c.bad_lists.ensures ∙ c.if-bad_lists.false) (sym c.rising.ensures ∙ c.if-not-rising.false) (sym c.bad_turnovers.ensures ∙ c.if-bad_turnovers.false), ← c.bad_randoms.ensures, c.if-bad_randoms.false, lt-leb _ _ c.if-start-ge-RANDOM_RANGE.false, ← c.bad_size.ensures, c.if-bad_size.false)

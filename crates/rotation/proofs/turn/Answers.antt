@@ -5,9 +5,10 @@ use native.Mathlib.Omega.{arith}
 use lib.ListN.{length}
 use lib.Seq.{length-take-le}
 use Rattle.rules.specs.Limits.{most_frame}
-use Rattle.rules.specs.Kept.{keeping}
-use Rattle.rules.specs.Rotation.{born, required}
+use Rattle.rules.specs.Rotation.{required}
 use Rattle.selection.proofs.Held.{held_room}
+use Rattle.group_keeping.specs.Keeping.{keeping_of}
+use Rattle.rotation_births.specs.Candidates.{births_of}
 use Rattle.rotation_members.proofs.Filling.{fill_held, fill_few}
 use Rattle.rotation_step.proofs.Starts.{moved}
 use Rattle.rotation.proofs.Composition.{frame_ok, lists_ok, ready, group_sound, searched, turn_refused, turn_given}
@@ -15,17 +16,17 @@ use Rattle.rotation.proofs.turn.Goals as goal
 
 pub find_enlarged-g-requires : goal.find_enlarged-g-requires
 find_enlarged-g-requires c =
-    let b = born c.args.previous.n c.args.previous.rest c.args.births.now in
-    let p = keeping c.args.threshold c.args.first.now c.args.second.now in
+    let b = births_of c.args.candidates.now in
+    let p = keeping_of c.args.keeping.now in
     let whole = frame_ok c.args.method _ _ _ _ _ _ _ b p _ c.requires in
     (ready c.args.method _ _ _ _ _ _ _ b p _ c.requires, whole.units.few)
 
 pub fill-requires : goal.fill-requires
 fill-requires c =
-    let b = born c.args.previous.n c.args.previous.rest c.args.births.now in
-    let p = keeping c.args.threshold c.args.first.now c.args.second.now in
+    let b = births_of c.args.candidates.now in
+    let p = keeping_of c.args.keeping.now in
     let whole = frame_ok c.args.method _ _ _ _ _ _ _ b p _ c.requires in
-    let marks_room : length c.args.turnovers.now ≤ length c.find_enlarged-g.new.marks = rw c.find_enlarged-g.auto.marks whole.units.few in
+    let marks_room : length c.args.frame.now.turnovers.now ≤ length c.find_enlarged-g.new.marks = rw c.find_enlarged-g.auto.marks whole.units.few in
     let parts = (group_sound c.args.method _ _ _ _ _ _ _ b p _ c.requires).parts in
     record {
       turnovers_bound = (whole.units.total, omega (arith, c.find_enlarged-g.ensures.agrees.size_is, parts, whole.units.size_few));
@@ -34,11 +35,11 @@ fill-requires c =
 
 pub members-many-requires : goal.members-many-requires
 members-many-requires c =
-    let b = born c.args.previous.n c.args.previous.rest c.args.births.now in
-    let p = keeping c.args.threshold c.args.first.now c.args.second.now in
+    let b = births_of c.args.candidates.now in
+    let p = keeping_of c.args.keeping.now in
     let whole = frame_ok c.args.method _ _ _ _ _ _ _ b p _ c.requires in
     let lists = lists_ok c.args.method _ _ _ _ _ _ _ b p _ c.requires in
-    let marks_room : length c.args.turnovers.now ≤ length c.find_enlarged-g.new.marks = rw c.find_enlarged-g.auto.marks whole.units.few in
+    let marks_room : length c.args.frame.now.turnovers.now ≤ length c.find_enlarged-g.new.marks = rw c.find_enlarged-g.auto.marks whole.units.few in
     record {
       numbers_value = (whole.rises, lists.rises, lists.births_rise);
       judgeable = record {
@@ -54,8 +55,8 @@ members-many-requires c =
 
 pub required-need-requires : goal.required-need-requires
 required-need-requires c =
-    let b = born c.args.previous.n c.args.previous.rest c.args.births.now in
-    let p = keeping c.args.threshold c.args.first.now c.args.second.now in
+    let b = births_of c.args.candidates.now in
+    let p = keeping_of c.args.keeping.now in
     let whole = frame_ok c.args.method _ _ _ _ _ _ _ b p _ c.requires in
     let lists = lists_ok c.args.method _ _ _ _ _ _ _ b p _ c.requires in
     let few : c.members-many.result ≤ most_frame = omega (arith, fill_few c.members-many.ensures.filled, whole.numbers_length, whole.units.few) in
@@ -69,15 +70,15 @@ slice_bounds-found-end c = sym (length-take-le c.members-many.result c.members-m
 
 pub first_step-k-requires : goal.first_step-k-requires
 first_step-k-requires c =
-    let b = born c.args.previous.n c.args.previous.rest c.args.births.now in
-    let p = keeping c.args.threshold c.args.first.now c.args.second.now in
+    let b = births_of c.args.candidates.now in
+    let p = keeping_of c.args.keeping.now in
     let held = fill_held c.members-many.ensures.filled in
     searched c.args.method _ _ _ _ _ _ _ b p _ c.requires _ _ c.find_enlarged-g.ensures _ c.fill.ensures _ held.units_are
 
 pub returns-then-k-ge-STEPS : goal.returns-then-k-ge-STEPS
 returns-then-k-ge-STEPS c =
-    let b = born c.args.previous.n c.args.previous.rest c.args.births.now in
-    let p = keeping c.args.threshold c.args.first.now c.args.second.now in
+    let b = births_of c.args.candidates.now in
+    let p = keeping_of c.args.keeping.now in
     let held = fill_held c.members-many.ensures.filled in
     let many = length-take-le c.members-many.result c.members-many.new.places (held_room held) in
     let need = c.required-need.ensures ∙ ap (required c.args.fraction) (sym many) in
@@ -87,15 +88,15 @@ returns-then-k-ge-STEPS c =
 
 pub setting_at-at-requires : goal.setting_at-at-requires
 setting_at-at-requires c =
-    let b = born c.args.previous.n c.args.previous.rest c.args.births.now in
-    let p = keeping c.args.threshold c.args.first.now c.args.second.now in
+    let b = births_of c.args.candidates.now in
+    let p = keeping_of c.args.keeping.now in
     let whole = frame_ok c.args.method _ _ _ _ _ _ _ b p _ c.requires in
     (whole.start_low, omega arith)
 
 pub write-count-requires : goal.write-count-requires
 write-count-requires c =
-    let b = born c.args.previous.n c.args.previous.rest c.args.births.now in
-    let p = keeping c.args.threshold c.args.first.now c.args.second.now in
+    let b = births_of c.args.candidates.now in
+    let p = keeping_of c.args.keeping.now in
     let whole = frame_ok c.args.method _ _ _ _ _ _ _ b p _ c.requires in
     let lists = lists_ok c.args.method _ _ _ _ _ _ _ b p _ c.requires in
     let held = fill_held c.members-many.ensures.filled in
@@ -109,8 +110,8 @@ write-count-requires c =
 
 pub returns : goal.returns
 returns c =
-    let b = born c.args.previous.n c.args.previous.rest c.args.births.now in
-    let p = keeping c.args.threshold c.args.first.now c.args.second.now in
+    let b = births_of c.args.candidates.now in
+    let p = keeping_of c.args.keeping.now in
     let held = fill_held c.members-many.ensures.filled in
     let many = length-take-le c.members-many.result c.members-many.new.places (held_room held) in
     let need = c.required-need.ensures ∙ ap (required c.args.fraction) (sym many) in

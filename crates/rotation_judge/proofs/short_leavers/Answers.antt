@@ -1,7 +1,6 @@
 -- `short_leavers` meets its contract: what the old panel leaves of the buffer is short of the births exactly where the buffer is short of both.
 use mathlib.Core.Path.{◌≡◌, sym, ◌∙◌}
-use mathlib.Core.Bool.{true}
-use Prim.Native.Nat.{ℕ, ◌+◌, ◌-◌, ◌≤◌, ◌<◌}
+use Prim.Native.Nat.{ℕ, ◌+◌, ◌-◌, ◌≤◌}
 use native.Mathlib.Omega.{arith}
 use lib.Dec.{ltb}
 use borrow.Author.Tests.{lt-ltb, le-ltb}
@@ -10,19 +9,16 @@ use Rattle.rules.proofs.Tests.{by_order}
 use Rattle.rotation_judge.proofs.short_leavers.Goals as goal
 
 -- b − p is below n exactly where b is below p + n
-left_over : (b p n : ℕ) → p ≤ b → ltb (b - p) n ≡ ltb b (p + n)
-left_over b p n h =
+left_over : (b p n left : ℕ) → p ≤ b → left ≡ b - p → ltb left n ≡ ltb b (p + n)
+left_over b p n left h e =
     by_order b (p + n)
-    (λ l. lt-ltb (b - p) n (omega arith) ∙ sym (lt-ltb b (p + n) l))
-    (λ l. le-ltb (b - p) n (omega arith) ∙ sym (le-ltb b (p + n) l))
+    (λ l. lt-ltb left n (omega arith) ∙ sym (lt-ltb b (p + n) l))
+    (λ l. le-ltb left n (omega arith) ∙ sym (le-ltb b (p + n) l))
 
-short_of_one : (b p n : ℕ) → b < p → ltb b (p + n) ≡ true
-short_of_one b p n h = lt-ltb b (p + n) (omega arith)
-
-pub returns-then-leavers-panel : goal.returns-then-leavers-panel
+pub returns-in-Some : goal.returns-in-Some
 unfolding short_leavers
-returns-then-leavers-panel c = sym (short_of_one _ _ _ c.if-leavers-panel.true)
+returns-in-Some c = left_over _ _ _ _ c.in-Some.ensures.0 c.in-Some.ensures.1
 
-pub returns : goal.returns
+pub returns-in-None : goal.returns-in-None
 unfolding short_leavers
-returns c = left_over _ _ _ c.if-leavers-panel.false
+returns-in-None c = sym (lt-ltb _ _ (by_order _ _ (λ l. omega (arith, l)) (λ l. absurd (c.in-None.ensures l))))

@@ -40,26 +40,26 @@ loop-i-preserved c =
     let up = c.requires.numbers_value in
     let at = c.loop-i.invariant in
     let l = c.loop-i-test.true in
-    let x = get_or c.args.numbers.now c.loop-i.i 0 in
+    let x = get_or c.args.frame.now.numbers.now c.loop-i.i 0 in
     let old = c.seek-j.ensures in
     let birth = c.seek-b.ensures in
     let room : c.loop-i.count < length c.args.places.now = omega (arith, fill_few at.filled, l, c.requires.numbers_len.1) in
     -- what the unit's test says
     let tested :
-    member_of c.args.turnovers.now c.args.randoms.now c.args.marks.now c.args.previous c.loop-i.i (stands c.args.panel.now c.seek-j.result x)
-    (stands c.args.births.now c.seek-b.result x)
+    member_of c.args.frame.now.turnovers.now c.args.frame.now.randoms.now c.args.marks.now c.args.candidates.now.previous c.loop-i.i (stands c.args.candidates.now.panel.now c.seek-j.result x)
+    (stands c.args.candidates.now.births.now c.seek-b.result x)
     ≡ c.is_member.result =
     rw (← c.stands_at-old.ensures, ← c.stands_at-birth.ensures) (sym c.is_member.ensures) in
     rw (c.behind-j.ensures, c.behind-b.ensures)
     (elim c.if-is_member.branch [
-      | then-is_member w ↦ rw (w.places-is, w.count-is) (turn_in _ _ _ _ _ _ _ _ _ _ _ _ _ _ _ at up.0 up.1 up.2 l old birth (tested ∙ w.if-is_member.true) room)
-      | else-is_member w ↦ rw (w.places-is, w.count-is) (turn_out _ _ _ _ _ _ _ _ _ _ _ _ _ _ _ at up.0 up.1 up.2 l old birth (tested ∙ w.if-is_member.false))
+      | then-is_member w ↦ rw (w.places-is, w.count-is) (turn_in _ _ _ _ _ _ _ _ _ _ _ at up.0 up.1 up.2 l old birth (tested ∙ w.if-is_member.true) room)
+      | else-is_member w ↦ rw (w.places-is, w.count-is) (turn_out _ _ _ _ _ _ _ _ _ _ _ at up.0 up.1 up.2 l old birth (tested ∙ w.if-is_member.false))
     ])
 
 pub returns : goal.returns
 returns c =
     let at = c.loop-i in
-    let all : at.i ≡ length c.args.numbers.now = omega (arith, at.invariant.in_panel.in_frame) in
+    let all : at.i ≡ length c.args.frame.now.numbers.now = omega (arith, at.invariant.in_panel.in_frame) in
     record {
       filled = rw all at at.invariant.filled;
       upper_bound = omega (arith, at.invariant.fewer, at.invariant.in_panel.in_list, at.invariant.in_births.in_list);
