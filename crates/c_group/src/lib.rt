@@ -3,7 +3,11 @@
 
 ghost use Rattle.std.specs.Prelude.{◌≡◌};
 ghost use Rattle.rules.specs.TakeAll.{take_all_answer, take_all_marks};
+ghost use Rattle.group_entry.specs.Answer.{answer_from};
 ghost use Rattle.c_group.specs.Answer.{taken_from};
+
+use group::Group;
+use refusals::Refusal;
 
 // The answer of take-all.
 #[repr(C)]
@@ -15,24 +19,30 @@ pub struct Taken {
     pub rest: u64,
 }
 
-#[unsafe(no_mangle)]
-pub extern "C" fn vougecress_take_all(turnovers: &[u64], z: usize, marks: &mut [u8]) -> Taken
-    ensures value { result ≡ taken_from (take_all_answer turnovers.now z marks.old) }
-    ensures marks_after { marks.new ≡ take_all_marks turnovers.now z marks.old }
+// The answer as C has it.
+pub fn shown(answer: Result<Group, Refusal>) -> Taken
+    ensures { result ≡ taken_from (answer_from answer) }
 {
-    let answer = group_entry::take_all(turnovers, z, marks);
     match answer {
-        group_entry::Answer::Taken { q, n, rest } => Taken {
+        Ok(g) => Taken {
             refusal: 0,
-            q: q as u64,
-            n: n as u64,
-            rest,
+            q: g.q as u64,
+            n: g.n as u64,
+            rest: g.rest,
         },
-        group_entry::Answer::Refused(why) => Taken {
-            refusal: why.number() as u32,
+        Err(why) => Taken {
+            refusal: u32::from(why.number()),
             q: 0,
             n: 0,
             rest: 0,
         },
     }
+}
+
+#[unsafe(no_mangle)]
+pub extern "C" fn vougecress_take_all(turnovers: &[u64], z: usize, marks: &mut [u8]) -> Taken
+    ensures value { result ≡ taken_from (take_all_answer turnovers.now z marks.old) }
+    ensures marks_after { marks.new ≡ take_all_marks turnovers.now z marks.old }
+{
+    shown(group_entry::take_all(turnovers, z, marks))
 }

@@ -6,6 +6,7 @@ ghost use Rattle.rules.specs.Kept.{keeping, take_all_units_answer, take_all_unit
 ghost use Rattle.c_group.specs.Answer.{taken_from};
 
 use c_group::Taken;
+use group_keeping::Keeping;
 
 #[unsafe(no_mangle)]
 pub extern "C" fn vougecress_take_all_units(
@@ -22,21 +23,11 @@ pub extern "C" fn vougecress_take_all_units(
     ensures units_after { units.new ≡ take_all_units numbers.now turnovers.now z (keeping threshold first.now second.now)
         units.old }
 {
-    let answer = group_units::take_all_units(
-        numbers, turnovers, z, threshold, first, second, units,
-    );
-    match answer {
-        group_entry::Answer::Taken { q, n, rest } => Taken {
-            refusal: 0,
-            q: q as u64,
-            n: n as u64,
-            rest,
-        },
-        group_entry::Answer::Refused(why) => Taken {
-            refusal: why.number() as u32,
-            q: 0,
-            n: 0,
-            rest: 0,
-        },
-    }
+    let keeping = Keeping {
+        threshold,
+        first,
+        second,
+    };
+    let answer = group_units::take_all_units(numbers, turnovers, z, &keeping, units);
+    c_group::shown(answer)
 }

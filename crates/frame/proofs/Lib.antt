@@ -1,3 +1,2 @@
+pub mod Whole
 pub mod Accepted
-pub mod Randoms
-pub mod Zeros

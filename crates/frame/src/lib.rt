@@ -24,10 +24,7 @@ pub struct Frame<'a> {
 pub fn bad_count(turnovers: &[u64]) -> bool
     ensures { result ≡ bad_count turnovers.now }
 {
-    if turnovers.len() == 0 {
-        return true;
-    }
-    MOST_FRAME < turnovers.len()
+    turnovers.is_empty() || MOST_FRAME < turnovers.len()
 }
 
 // "frame lists unequal, empty or over 16,384"
@@ -43,55 +40,37 @@ pub fn bad_lists(frame: &Frame) -> bool
     bad_count(frame.turnovers)
 }
 
-// "strictly rising": a fall is noted and asked at the end, so that the pass has no way out and takes several numbers at once
+// "strictly rising". `is_sorted_by` would be plainer, but a pass that may stop in the middle takes four times as long.
 pub fn rising(numbers: &[u32]) -> bool
     ensures { result ≡ rising numbers.now }
 {
     let mut rises = true;
-    let mut i: usize = 1;
-    while i < numbers.len() {
+    for i in 1..numbers.len() {
         if numbers[i] <= numbers[i - 1] {
             rises = false;
         }
-        i += 1;
     }
     rises
 }
 
-// "a turnover 0, or total over 10^12". The total stops before it would pass the limit, so that no sum wraps.
+// "a turnover 0, or total over 10^12". The total stays at the largest number rather than wrap.
 pub fn bad_turnovers(turnovers: &[u64]) -> bool
     ensures { result ≡ bad_turnovers turnovers.now }
 {
-    let mut total: u64 = 0;
-    let mut i: usize = 0;
-    while i < turnovers.len() {
-        let turnover = turnovers[i];
-        if turnover == 0 {
-            return true;
-        }
-        if MOST_TURNOVER - total < turnover {
-            return true;
-        }
-        total += turnover;
-        i += 1;
+    if turnovers.contains(&0) {
+        return true;
     }
-    false
+    let total = turnovers
+        .iter()
+        .fold(0u64, |total, turnover| total.saturating_add(*turnover));
+    MOST_TURNOVER < total
 }
 
-// "random number … over 999,999": likewise the largest is asked at the end
+// "random number … over 999,999": asked of the largest, since a pass that may stop in the middle takes longer
 pub fn bad_randoms(randoms: &[u32]) -> bool
     ensures { result ≡ any_of bad_random randoms.now }
 {
-    let mut most: u32 = 0;
-    let mut i: usize = 0;
-    while i < randoms.len() {
-        let random = randoms[i];
-        if most < random {
-            most = random;
-        }
-        i += 1;
-    }
-    RANDOM_RANGE <= most
+    RANDOM_RANGE <= randoms.iter().copied().max().unwrap_or(0)
 }
 
 // "z is 0, over 100 or over the units"

@@ -6,10 +6,6 @@ use Rattle.rules.specs.Selection.{count, listed, every}
 use Rattle.rules.specs.TakeAll.{turnover, take_all_size, take_all_group, Group as RulesGroup}
 use Rattle.group.specs.declared.Group.{Group}
 
--- no unit is taken
-abbrev pub no_unit : ℕ → Bool
-no_unit i = false
-
 -- a mark for each of n units: 1 for one that is taken and 0 for another
 abbrev pub marks_of : (ℕ → Bool) → ℕ → List ℕ
 marks_of takes n = listed every (λ i. cond (takes i) 1 0) n

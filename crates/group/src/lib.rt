@@ -6,7 +6,7 @@ ghost use Rattle.std.specs.Prelude.{◌≡◌, ◌≤◌, length};
 ghost use Rattle.rules.specs.Refusals.{written};
 ghost use Rattle.rules.specs.TakeAll.{take_all_group};
 ghost use Rattle.group_least.specs.Size.{Sized, has_least};
-ghost use Rattle.group.specs.Group.{no_unit, marks_of, IsGroup};
+ghost use Rattle.group.specs.Group.{marks_of, IsGroup};
 
 // The take-all group as a value: q units; n more are sampled, and rest is X. Who the q are stands in the marks.
 #[derive(Clone, Copy)]
@@ -16,31 +16,13 @@ pub struct Group {
     pub rest: u64,
 }
 
-// No unit has a mark.
-fn clear(turnovers: &[u64], marks: &mut [u8])
-    requires { length turnovers.now ≤ length marks.old }
-    ensures { marks.new ≡ written 0 (marks_of no_unit (length turnovers.now)) marks.old }
-{
-    let mut i: usize = 0;
-    while i < turnovers.len() {
-        marks[i] = 0;
-        i += 1;
-    }
-}
-
-// A mark for each unit: 1 where it has at least this turnover, 0 where it has less.
+// A mark for each unit, a byte as the C interface lends it: 1 where it has at least this turnover, 0 where it has less.
 fn mark(turnovers: &[u64], least: u64, marks: &mut [u8])
     requires { length turnovers.now ≤ length marks.old }
     ensures { marks.new ≡ written 0 (marks_of (has_least turnovers.now least) (length turnovers.now)) marks.old }
 {
-    let mut i: usize = 0;
-    while i < turnovers.len() {
-        if least <= turnovers[i] {
-            marks[i] = 1;
-        } else {
-            marks[i] = 0;
-        }
-        i += 1;
+    for (i, &turnover) in turnovers.iter().enumerate() {
+        marks[i] = u8::from(least <= turnover);
     }
 }
 
@@ -52,7 +34,7 @@ pub fn find_group(turnovers: &[u64], z: usize, marks: &mut [u8]) -> Group
 {
     let size = group_least::find_size(turnovers, z);
     if size.q == 0 {
-        clear(turnovers, marks);
+        marks[..turnovers.len()].fill(0);
     } else {
         mark(turnovers, size.least, marks);
     }

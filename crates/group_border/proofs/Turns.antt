@@ -3,7 +3,7 @@
 use mathlib.Core.Path.{◌≡◌, refl, sym, ap, ◌∙◌}
 use mathlib.Core.Bool.{Bool, true, false, not}
 use mathlib.Core.List.{List, [], ◌∷◌, ◌++◌}
-use Prim.Native.Nat.{ℕ, ◌+◌, ◌*◌, ◌≤◌, ◌<◌}
+use Prim.Native.Nat.{ℕ, ◌+◌, ◌*◌, ◌<◌}
 use native.Mathlib.Omega.{arith}
 use native.Mathlib.Numerals.{add-one}
 use lib.Dec.{leb, eqb}
@@ -17,7 +17,6 @@ use Rattle.rules.specs.TakeAll.{turnover, Group}
 use Rattle.rules.specs.Kept.{Keeping, keeping, in_previous, near_border, candidate}
 use Rattle.rules.proofs.Tests.{and_on, and_off, and_second, or_on, or_off, or_second, or_none, by_test, by_order, not_both}
 use Rattle.rules.proofs.Lists.{rising_below, elem_place, elem_nowhere, elem_last}
-use Rattle.frame_find.specs.Found.{Found}
 use Rattle.order.proofs.Each.{Each, each_append, each_one}
 use Rattle.order.proofs.Marked.{distinct_last}
 use Rattle.group.specs.Group.{marked, rules_group}
@@ -68,17 +67,21 @@ module _ (ns ts marks skip list units : List ℕ) (threshold n rest j : ℕ) (nu
       (λ t. rw same (and_second _ _
       (sym (and_on _ _ (and_on _ _ (lt-ltb k (length ts) lk) ∙ ap not t)) ∙ e)))
 
-  -- the unit that has number x, where there is one
-  module _ (i : ℕ) (f : Found ns x i) where
-    not_there : length ts ≤ i → (k : ℕ) → k < length ts → get_or ns k 0 ≡ x → ⊥
-    not_there h k lk e =
-        not_both (elem x ns) (ap (λ (y : ℕ). elem y ns) (sym e) ∙ elem_place ns k (omega (arith, numbered.same))) (f.absent (omega (arith, numbered.same)))
+  -- no unit has number x
+  pub turn_none : elem x ns ≡ false → Gathered ns ts (keeping threshold skip (take (j + 1) list)) g units
+  turn_none absent = record {
+    low = at.low;
+    distinct = at.distinct;
+    all = λ k lk. at.all k lk
+        ∙ others_same k (λ here. not_both (elem x ns) (ap (λ (y : ℕ). elem y ns) (sym here) ∙ elem_place ns k (omega (arith, numbered.same))) absent);
+  }
 
-    there : i < length ts → (k : ℕ) → k < length ts → get_or ns k 0 ≡ x → k ≡ i
-    there h k lk e =
-        one_place ns numbered.rises k i (omega (arith, numbered.same)) (omega (arith, numbered.same)) (e ∙ sym (f.here (omega (arith, numbered.same))))
+  -- the unit that has it
+  module _ (i : ℕ) (fits : i < length ts) (number_is : get_or ns i 0 ≡ x) where
+    there : (k : ℕ) → k < length ts → get_or ns k 0 ≡ x → k ≡ i
+    there k lk e = one_place ns numbered.rises k i (omega (arith, numbered.same)) (omega (arith, numbered.same)) (e ∙ sym number_is)
 
-    -- it is not eligible, or there is none
+    -- it is not eligible
     pub turn_out : eligible ts marks threshold n rest i ≡ false → Gathered ns ts (keeping threshold skip (take (j + 1) list)) g units
     turn_out e = record {
       low = at.low;
@@ -86,12 +89,8 @@ module _ (ns ts marks skip list units : List ℕ) (threshold n rest j : ℕ) (nu
       all = λ k lk. at.all k lk
           ∙ by_test (eqb (get_or ns k 0) x)
           (λ q.
-          let here = eqb-true (get_or ns k 0) x q in
-          by_order i (length ts)
-          (λ h.
-          let no : eligible ts marks threshold n rest k ≡ false = ap (eligible ts marks threshold n rest) (there h k lk here) ∙ e in
+          let no : eligible ts marks threshold n rest k ≡ false = ap (eligible ts marks threshold n rest) (there k lk (eqb-true (get_or ns k 0) x q)) ∙ e in
           out (keeping threshold skip (take j list)) refl k lk no ∙ sym (out (keeping threshold skip (take (j + 1) list)) refl k lk no))
-          (λ h. absurd (not_there h k lk here)))
           (λ q. others_same k (eqb-false (get_or ns k 0) x q));
     }
 
@@ -111,10 +110,7 @@ module _ (ns ts marks skip list units : List ℕ) (threshold n rest j : ℕ) (nu
     }
 
     -- it is a candidate
-    module _ (fits : i < length ts) (e : eligible ts marks threshold n rest i ≡ true) (s : elem x skip ≡ false) where
-      number_is : get_or ns i 0 ≡ x
-      number_is = f.here (omega (arith, numbered.same))
-
+    module _ (e : eligible ts marks threshold n rest i ≡ true) (s : elem x skip ≡ false) where
       now_is : after i ≡ true
       unfolding candidate in_previous eligible near_border
       now_is =
@@ -141,5 +137,5 @@ module _ (ns ts marks skip list units : List ℕ) (threshold n rest j : ℕ) (nu
         all = λ k lk. elem_last k i units
             ∙ by_test (eqb k i)
             (λ q. or_second _ _ q ∙ sym (ap after (eqb-true k i q) ∙ now_is))
-            (λ q. or_none _ _ q ∙ at.all k lk ∙ others_same k (λ here. eqb-false k i q (there fits k lk here)));
+            (λ q. or_none _ _ q ∙ at.all k lk ∙ others_same k (λ here. eqb-false k i q (there k lk here)));
       }

@@ -3,51 +3,36 @@
 
 ghost use Rattle.std.specs.Prelude.{◌≡◌};
 ghost use Rattle.rules.specs.TakeAll.{take_all_refusal, take_all_answer, take_all_marks};
-ghost use Rattle.refusals.specs.Number.{verdict_of};
+ghost use Rattle.refusals.specs.Number.{refusal_of};
 ghost use Rattle.group_entry.specs.Answer.{answer_from};
 
-use refusals::{Refusal, Verdict};
-
-#[derive(Drop)]
-pub enum Answer {
-    Taken { q: usize, n: usize, rest: u64 },
-    Refused(Refusal),
-}
+use group::Group;
+use refusals::Refusal;
 
 // Refusals 1, 3, 5 and 6: the lowest that applies.
-fn judge(turnovers: &[u64], z: usize, marks: &[u8]) -> Verdict
-    ensures { verdict_of result ≡ take_all_refusal turnovers.now z marks.now }
+fn judge(turnovers: &[u64], z: usize, marks: &[u8]) -> Result<(), Refusal>
+    ensures { refusal_of result ≡ take_all_refusal turnovers.now z marks.now }
 {
     if frame::bad_count(turnovers) {
-        return Verdict::Refused(Refusal::FrameLists);
+        return Err(Refusal::FrameLists);
     }
     if frame::bad_turnovers(turnovers) {
-        return Verdict::Refused(Refusal::Turnovers);
+        return Err(Refusal::Turnovers);
     }
     if frame::bad_size(turnovers, z) {
-        return Verdict::Refused(Refusal::PanelSize);
+        return Err(Refusal::PanelSize);
     }
     if marks.len() < turnovers.len() {
-        return Verdict::Refused(Refusal::ResultBuffer);
+        return Err(Refusal::ResultBuffer);
     }
-    Verdict::Accepted
+    Ok(())
 }
 
 // Take-all as an entry of its own: answers q, n and X, and marks each unit in the lent buffer.
-pub fn take_all(turnovers: &[u64], z: usize, marks: &mut [u8]) -> Answer
+pub fn take_all(turnovers: &[u64], z: usize, marks: &mut [u8]) -> Result<Group, Refusal>
     ensures result_value { answer_from result ≡ take_all_answer turnovers.now z marks.old }
     ensures marks_after { marks.new ≡ take_all_marks turnovers.now z marks.old }
 {
-    let verdict = judge(turnovers, z, marks);
-    match verdict {
-        Verdict::Refused(why) => Answer::Refused(why),
-        Verdict::Accepted => {
-            let g = group::find_group(turnovers, z, marks);
-            Answer::Taken {
-                q: g.q,
-                n: g.n,
-                rest: g.rest,
-            }
-        }
-    }
+    judge(turnovers, z, marks)?;
+    Ok(group::find_group(turnovers, z, marks))
 }

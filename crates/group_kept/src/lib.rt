@@ -2,23 +2,13 @@
 // previous draws. The further search that the request words takes nobody (proofs/Enlarged.antt), so none runs. With no lists it is the base group.
 #![tactic(auto)]
 
-ghost use Rattle.std.specs.Prelude.{◌≡◌, ◌-◌, ◌≤◌, min, length};
+ghost use Rattle.std.specs.Prelude.{◌≡◌, ◌-◌, ◌≤◌, length};
 ghost use Rattle.group_keeping.specs.Keeping.{keeping_of};
 ghost use Rattle.group_kept.specs.Kept.{Enlargeable, IsEnlarged, turnover_of, Outside};
 
 use group::Group;
-use group_border::TWO_LISTS;
+use group_border::{Border, TWO_LISTS};
 use group_keeping::Keeping;
-
-// "At most n are kept"
-fn at_most(n: usize, many: usize) -> usize
-    ensures { result ≡ min n many }
-{
-    if n < many {
-        return n;
-    }
-    many
-}
 
 // The rest turnover without listed units.
 fn less(turnovers: &[u64], units: &[usize], rest: u64) -> u64
@@ -26,11 +16,8 @@ fn less(turnovers: &[u64], units: &[usize], rest: u64) -> u64
     ensures { result ≡ rest - turnover_of turnovers.now units.now }
 {
     let mut left = rest;
-    let mut j: usize = 0;
-    while j < units.len() {
-        let i = units[j];
+    for &i in units {
         left -= turnovers[i];
-        j += 1;
     }
     left
 }
@@ -47,19 +34,17 @@ pub fn find_enlarged(
     ensures { IsEnlarged numbers.now turnovers.now z (keeping_of keeping.now) marks.new result }
 {
     let g = group::find_group(turnovers, z, marks);
-    let mut places = [0usize; TWO_LISTS];
-    let many = group_border::candidates(
+    let border = Border {
         numbers,
         turnovers,
         marks,
-        keeping.threshold,
-        g.n,
-        g.rest,
-        keeping.first,
-        keeping.second,
-        &mut places,
-    );
-    let kept = at_most(g.n, many);
+        group: g,
+        keeping: *keeping,
+    };
+    let mut places = [0usize; TWO_LISTS];
+    let many = border.candidates(&mut places);
+    // "At most n are kept"
+    let kept = g.n.min(many);
     selection::mark(&places[..kept], 1, marks);
     let q = g.q + kept;
     if g.n <= kept {

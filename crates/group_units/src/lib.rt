@@ -5,50 +5,49 @@
 ghost use Rattle.std.specs.Prelude.{◌≡◌, ◌≤◌, length, get_or};
 ghost use Rattle.rules.specs.Refusals.{written};
 ghost use Rattle.rules.specs.Selection.{count, listed};
-ghost use Rattle.rules.specs.Kept.{keeping, take_all_units_refusal, take_all_units_answer, take_all_units};
-ghost use Rattle.refusals.specs.Number.{verdict_of};
+ghost use Rattle.rules.specs.Kept.{take_all_units_refusal, take_all_units_answer, take_all_units};
+ghost use Rattle.refusals.specs.Number.{refusal_of};
 ghost use Rattle.group.specs.Group.{marked};
+ghost use Rattle.group_keeping.specs.Keeping.{keeping_of};
 ghost use Rattle.group_entry.specs.Answer.{answer_from};
 
-use group_entry::Answer;
+use group::Group;
+use group_keeping::Keeping;
 use limits::MOST_FRAME;
-use refusals::{Refusal, Verdict};
+use refusals::Refusal;
 
 // Refusals 1, 2, 3, 5, 6 and 30: the first that applies.
 fn judge(
     numbers: &[u32],
     turnovers: &[u64],
     z: usize,
-    threshold: u32,
-    first: &[u32],
-    second: &[u32],
+    keeping: &Keeping,
     units: &[u32],
-) -> Verdict
-    ensures { verdict_of result ≡ take_all_units_refusal numbers.now turnovers.now z (keeping threshold first.now second.now)
-        units.now }
+) -> Result<(), Refusal>
+    ensures { refusal_of result ≡ take_all_units_refusal numbers.now turnovers.now z (keeping_of keeping.now) units.now }
 {
     if numbers.len() != turnovers.len() {
-        return Verdict::Refused(Refusal::FrameLists);
+        return Err(Refusal::FrameLists);
     }
     if frame::bad_count(turnovers) {
-        return Verdict::Refused(Refusal::FrameLists);
+        return Err(Refusal::FrameLists);
     }
     if !frame::rising(numbers) {
-        return Verdict::Refused(Refusal::UnitNumbers);
+        return Err(Refusal::UnitNumbers);
     }
     if frame::bad_turnovers(turnovers) {
-        return Verdict::Refused(Refusal::Turnovers);
+        return Err(Refusal::Turnovers);
     }
     if frame::bad_size(turnovers, z) {
-        return Verdict::Refused(Refusal::PanelSize);
+        return Err(Refusal::PanelSize);
     }
     if units.len() < z {
-        return Verdict::Refused(Refusal::ResultBuffer);
+        return Err(Refusal::ResultBuffer);
     }
-    if group_keeping::bad_keeping(threshold, first, second) {
-        return Verdict::Refused(Refusal::PreviousLists);
+    if group_keeping::bad_keeping(keeping) {
+        return Err(Refusal::PreviousLists);
     }
-    Verdict::Accepted
+    Ok(())
 }
 
 // Writes the numbers of the units that have the mark of the group, in the order of the frame.
@@ -57,13 +56,11 @@ fn write_marked(numbers: &[u32], marks: &[u8], units: &mut [u32])
     ensures { units.new ≡ written 0 (listed (marked marks.now) (λ i. get_or numbers.now i 0) (length numbers.now)) units.old }
 {
     let mut many: usize = 0;
-    let mut i: usize = 0;
-    while i < numbers.len() {
+    for (i, &number) in numbers.iter().enumerate() {
         if marks[i] == 1 {
-            units[many] = numbers[i];
+            units[many] = number;
             many += 1;
         }
-        i += 1;
     }
 }
 
@@ -72,30 +69,15 @@ pub fn take_all_units(
     numbers: &[u32],
     turnovers: &[u64],
     z: usize,
-    threshold: u32,
-    first: &[u32],
-    second: &[u32],
+    keeping: &Keeping,
     units: &mut [u32],
-) -> Answer
-    ensures result_value { answer_from result ≡ take_all_units_answer numbers.now turnovers.now z (keeping threshold first.now second.now)
-        units.old }
-    ensures units_after { units.new ≡ take_all_units numbers.now turnovers.now z (keeping threshold first.now second.now)
-        units.old }
+) -> Result<Group, Refusal>
+    ensures result_value { answer_from result ≡ take_all_units_answer numbers.now turnovers.now z (keeping_of keeping.now) units.old }
+    ensures units_after { units.new ≡ take_all_units numbers.now turnovers.now z (keeping_of keeping.now) units.old }
 {
-    let verdict = judge(numbers, turnovers, z, threshold, first, second, units);
-    match verdict {
-        Verdict::Refused(why) => Answer::Refused(why),
-        Verdict::Accepted => {
-            let mut marks = [0u8; MOST_FRAME];
-            let g = group_kept::find_enlarged(
-                numbers, turnovers, z, threshold, first, second, &mut marks,
-            );
-            write_marked(numbers, &marks, units);
-            Answer::Taken {
-                q: g.q,
-                n: g.n,
-                rest: g.rest,
-            }
-        }
-    }
+    judge(numbers, turnovers, z, keeping, units)?;
+    let mut marks = [0u8; MOST_FRAME];
+    let g = group_kept::find_enlarged(numbers, turnovers, z, keeping, &mut marks);
+    write_marked(numbers, &marks, units);
+    Ok(g)
 }

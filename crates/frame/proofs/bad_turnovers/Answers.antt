@@ -1,36 +1,25 @@
--- `bad_turnovers` meets its contract. The invariant: the total with the sum from place i on is the whole sum, it is within the limit,
--- and no turnover passed is 0.
-use Prim.Native.Nat.{ℕ}
-use mathlib.Core.Bool.{Bool}
-use mathlib.Core.Path.{sym, ◌∙◌}
-use native.Mathlib.Omega.{arith}
-use lib.Dec.{eqb}
-use borrow.Author.Rules.{rules}
-use borrow.Author.Tests.{eq-eqb, ne_eqb, lt-ltb, le-ltb}
+-- `bad_turnovers` meets its contract: whether some turnover is 0, and a total that cannot pass the largest number.
+use mathlib.Core.Path.{◌≡◌, sym, ap, ◌∙◌}
+use Prim.Native.Nat.{ℕ, ◌-◌, ◌^◌}
+use lib.Dec.{eqb, ltb}
+use Rattle.std.proofs.Common.{rules, lit<}
+use Rattle.std.proofs.iter.runs.Made.{chains}
+use Rattle.std.specs.List.{fold}
 use Rattle.rules.specs.Limits.{most_turnover}
-use Rattle.rules.specs.Lists.{sum}
 use Rattle.rules.specs.TakeAll.{bad_turnovers}
-use Rattle.rules.proofs.Tests.{or_on, or_second, or_off}
-use Rattle.rules.proofs.Lists.{sum_step, sum_end, one_found, one_next, one_none}
+use Rattle.rules.proofs.Tests.{or_on, or_off}
+use Rattle.frame.proofs.Whole.{any_is, stopping, over_stopped}
 use Rattle.frame.proofs.bad_turnovers.Goals as goal
 
-abbrev is_zero : ℕ → Bool
-is_zero t = eqb t 0
-
-pub returns-then-turnover-eq0 : goal.returns-then-turnover-eq0
+pub returns-then-contains : goal.returns-then-contains
 unfolding bad_turnovers
-returns-then-turnover-eq0 c = sym (or_on _ _ (sym (one_found is_zero _ c.loop-i.i _ c.loop-i.invariant.2 (search rules) (eq-eqb _ _ c.if-turnover-eq0.true))))
-
-pub returns-then-total-turnover : goal.returns-then-total-turnover
-unfolding bad_turnovers
-returns-then-total-turnover c = let next = sum_step c.args.turnovers.now c.loop-i.i (search rules) in
-    sym (or_second _ _ (lt-ltb most_turnover (sum c.args.turnovers.now) (omega arith)))
-
-pub loop-i-preserved : goal.loop-i-preserved
-loop-i-preserved c = let next = sum_step c.args.turnovers.now c.loop-i.i (search rules) in
-    (omega arith, omega arith, one_next is_zero _ c.loop-i.i _ c.loop-i.invariant.2 (search rules) (ne_eqb _ _ c.if-turnover-eq0.false))
+returns-then-contains c =
+    let found = sym (any_is (λ t. eqb t 0) c.args.turnovers.now) ∙ sym c.contains.ensures.value ∙ c.if-contains.true in
+    sym (or_on _ _ found)
 
 pub returns : goal.returns
 unfolding bad_turnovers
-returns c = let end = sum_end c.args.turnovers.now c.loop-i.i (search rules) in
-    sym (or_off _ _ (sym (one_none is_zero c.args.turnovers.now c.loop-i.i _ c.loop-i.invariant.2 (search rules))) ∙ le-ltb most_turnover (sum c.args.turnovers.now) (omega arith))
+returns c =
+    let none = sym (any_is (λ t. eqb t 0) c.args.turnovers.now) ∙ sym c.contains.ensures.value ∙ c.if-contains.false in
+    let total : c.fold-total.result ≡ fold (stopping (2 ^ 64 - 1)) 0 c.args.turnovers.now = search (rules, chains) in
+    ap (λ (n : ℕ). ltb most_turnover n) total ∙ over_stopped most_turnover (2 ^ 64 - 1) c.args.turnovers.now (lit< tt) ∙ sym (or_off _ _ none)

@@ -31,11 +31,16 @@ module _ (l : List ℕ) (i : ℕ) (rises : Bool) (h : i < length l) where
   rises_on high left = ap (λ (rest : Bool). rises and rest) (rises_next _ l i h high) ∙ left
 
 pub loop-i-init : goal.loop-i-init
-loop-i-init c = (omega arith, and_on true _ refl ∙ rises_start c.args.numbers.now)
+loop-i-init c = and_on true _ refl ∙ rises_start c.args.numbers.now
 
 pub loop-i-preserved : goal.loop-i-preserved
-loop-i-preserved c = let here : c.loop-i.i + 1 - 1 ≡ c.loop-i.i = omega arith in
-    elim c.if-numbers-i.branch [ then-numbers-i w ↦ (omega arith, rw (w.rises-is, here) (falls _ c.loop-i.i c.loop-i.rises c.loop-i-test.true w.if-numbers-i.true c.loop-i.invariant.1)) | else-numbers-i w ↦ (omega arith, rw (w.rises-is, here) (rises_on _ c.loop-i.i c.loop-i.rises c.loop-i-test.true w.if-numbers-i.false c.loop-i.invariant.1)) ]
+loop-i-preserved c =
+    let at = c.loop-i in
+    let here : at.i + 1 - 1 ≡ at.i = omega arith in
+    elim c.if-numbers-i.branch [
+      | then-numbers-i w ↦ rw (w.rises-is, here) (falls _ at.i at.rises c.loop-i-test.true w.if-numbers-i.true at.invariant)
+      | else-numbers-i w ↦ rw (w.rises-is, here) (rises_on _ at.i at.rises c.loop-i-test.true w.if-numbers-i.false at.invariant)
+    ]
 
 pub returns : goal.returns
-returns c = sym (and_true_right c.loop-i.rises _ (rises_end _ _ c.loop-i.i (search rules))) ∙ c.loop-i.invariant.1
+returns c = sym (and_true_right c.loop-i.rises _ (rises_end _ _ c.loop-i.i (search rules))) ∙ c.loop-i.invariant

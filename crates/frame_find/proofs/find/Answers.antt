@@ -1,16 +1,34 @@
--- `find` meets its contract: the number lies between the two places, which meet.
+-- `find` meets its contract: in a rising list a binary search finds a number that stands in it.
+use mathlib.Core.Path.{◌≡◌}
+use mathlib.Core.Bool.{true}
+use mathlib.Core.List.{List}
+use Prim.Native.Nat.{ℕ, ◌≤◌, ◌<◌}
 use native.Mathlib.Omega.{arith}
-use Rattle.frame_find.proofs.Halves.{between_up, between_down, found_nowhere}
+use lib.ListN.{length, get_or}
+use Rattle.std.specs.Prelude.{Result, Ok, Err}
+use Rattle.std.specs.Ordering.{nat_cmp}
+use Rattle.std.specs.Result.{result_ok}
+use Rattle.std.specs.List.Sorted.{IsBinarySearchResult}
+use Rattle.std.proofs.lemmas.List.Sorted.{searched}
+use Rattle.rules.specs.Lists.{rising}
+use Rattle.rules.proofs.Tests.{by_order}
+use Rattle.rules.proofs.Lists.{rising_below, elem_nowhere}
+use Rattle.frame_find.specs.Found.{Found}
 use Rattle.frame_find.proofs.find.Goals as goal
 
-pub loop-low-preserved-then-list-middle : goal.loop-low-preserved-then-list-middle
-loop-low-preserved-then-list-middle c = between_up c.requires c.loop-low.invariant _ (omega arith) (omega arith) c.if-list-middle.true
+-- a rising list does not fall
+never_falls : (list : List ℕ) → rising list ≡ true → (i j : ℕ) → i ≤ j → j < length list → get_or list i 0 ≤ get_or list j 0
+never_falls list up i j l lj =
+    by_order i j (λ a. omega (arith, rising_below list up i j a lj)) (λ a. let e : i ≡ j = omega arith in rw e (omega arith))
 
-pub loop-low-preserved : goal.loop-low-preserved
-loop-low-preserved c = between_down c.requires c.loop-low.invariant _ (omega arith) (omega arith) c.if-list-middle.false
+-- so the place that it gives is the number's, and with none the number is nowhere
+found_is :
+    (list : List ℕ) (x : ℕ) → rising list ≡ true → (r : Result ℕ ℕ) → IsBinarySearchResult (λ y. nat_cmp y x) list r → Found list x (result_ok r)
+found_is list x up (Ok i) b = searched list x (Ok i) b (never_falls list up)
+found_is list x up (Err i) b =
+    let apart = searched list x (Err i) b (never_falls list up) in
+    elem_nowhere x list (λ k l e. by_order k i (λ a. omega (arith, apart.1 k a, e)) (λ a. omega (arith, apart.2 k a l, e)))
 
-pub returns-else-list-low : goal.returns-else-list-low
-returns-else-list-low c = found_nowhere c.requires c.loop-low.invariant c.loop-low-test.false (λ l. c.if-list-low.false)
-
-pub returns-else-low-list : goal.returns-else-low-list
-returns-else-low-list c = found_nowhere c.requires c.loop-low.invariant c.loop-low-test.false (λ l e. omega (arith, l, c.if-low-list.false))
+pub returns : goal.returns
+returns c =
+    rw c.ok.ensures.value (found_is c.args.list.now c.args.number c.requires _ c.binary_search.ensures.position)

@@ -1,27 +1,26 @@
 -- A refused verdict answers its number and leaves the marks; an accepted one gives the facts that the inner functions ask for.
-use mathlib.Core.Path.{◌≡◌, refl, sym, ap, ◌∙◌}
-use Rattle.rules.specs.TakeAll.{take_all_refusal, take_all_answer, take_all_marks}
-use Rattle.refusals.specs.Number.{verdict_of}
-use Rattle.refusals.proofs.Numbers.{number_is_suc}
+use mathlib.Core.Path.{◌≡◌, refl, sym}
+use Rattle.std.proofs.Common.{rules, Err}
+use Rattle.rules.specs.TakeAll.{take_all_answer, take_all_marks}
+use Rattle.refusals.proofs.Answers.{refused_by, written_by}
 use Rattle.group.proofs.Accepted.{sized}
 use Rattle.group_entry.proofs.Accepted.{accepted}
 use Rattle.group_entry.proofs.take_all.Goals as goal
 
 -- the verdict is the definition's
-pub find_group-g-requires : goal.find_group-g-requires
-find_group-g-requires c =
-    let none : take_all_refusal c.args.turnovers.now c.args.z c.args.marks.now ≡ 0 = sym c.judge-verdict.ensures ∙ ap verdict_of c.in-Accepted.is in
-    let ok = accepted _ _ _ none in
+pub find_group-requires : goal.find_group-requires
+find_group-requires c =
+    let ok = accepted _ _ _ (sym c.in_ok-judge.ensures) in
     (sized _ _ ok.units, ok.room)
 
-pub returns-in-Refused : goal.returns-in-Refused
+pub returns-in_err-judge : goal.returns-in_err-judge
 unfolding take_all_answer take_all_marks
-returns-in-Refused c =
-    rw (sym c.judge-verdict.ensures ∙ ap verdict_of c.in-Refused.is, number_is_suc c.in-Refused.why) record { result_value = refl; marks_after = refl }
+returns-in_err-judge c =
+    let told : c.from_residual.result ≡ Err c.in_err-judge.field-0.0 = search rules in
+    rw told record { result_value = refused_by _ _ c.in_err-judge.ensures _; marks_after = written_by _ _ c.in_err-judge.ensures _ _ }
 
-pub returns-in-Accepted : goal.returns-in-Accepted
+pub returns : goal.returns
 unfolding take_all_answer take_all_marks
-returns-in-Accepted c =
-    let none : take_all_refusal c.args.turnovers.now c.args.z c.args.marks.now ≡ 0 = sym c.judge-verdict.ensures ∙ ap verdict_of c.in-Accepted.is in
-    let g = c.find_group-g.ensures.group in
-    rw (none, ← g.size, ← g.agrees.size_is, ← g.agrees.rest_is) record { result_value = refl; marks_after = c.find_group-g.ensures.marks_after }
+returns c =
+    let g = c.find_group.ensures.group in
+    rw (← c.in_ok-judge.ensures, ← g.size, ← g.agrees.size_is, ← g.agrees.rest_is) record { result_value = refl; marks_after = c.find_group.ensures.marks_after }

@@ -20,12 +20,10 @@ unfolding turnover_of sum
 of_end ts units j l = ap (λ (xs : List ℕ). sum (map (λ i. turnover ts i) xs)) (drop_end units j l)
 
 pub overflow_sub-left : goal.overflow_sub-left
-overflow_sub-left c = omega (arith, c.loop-j.invariant.1, of_step c.args.turnovers.now c.args.units.now c.loop-j.j c.loop-j-test.true)
+overflow_sub-left c = omega (arith, c.loop-i.invariant, of_step c.args.turnovers.now c.args.units.now c.loop-i.i-index c.loop-i-test.true)
 
-pub loop-j-preserved : goal.loop-j-preserved
-loop-j-preserved c =
-    let step = of_step c.args.turnovers.now c.args.units.now c.loop-j.j c.loop-j-test.true in
-    (omega (arith, c.loop-j-test.true), omega (arith, c.loop-j.invariant.1, step))
+pub loop-i-preserved : goal.loop-i-preserved
+loop-i-preserved c = omega (arith, c.loop-i.invariant, of_step c.args.turnovers.now c.args.units.now c.loop-i.i-index c.loop-i-test.true)
 
 pub returns : goal.returns
-returns c = omega (arith, c.loop-j.invariant.1, of_end c.args.turnovers.now c.args.units.now c.loop-j.j c.loop-j-test.false)
+returns c = omega (arith, c.loop-i.invariant, of_end c.args.turnovers.now c.args.units.now c.loop-i.i-index c.loop-i-test.false)

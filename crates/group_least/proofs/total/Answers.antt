@@ -1,23 +1,25 @@
--- The sum by places (`sum_list`): a partial sum is at most the whole, which the contract bounds.
-use mathlib.Core.Path.{◌≡◌, refl, ap, ◌∙◌}
+-- `total` meets its contract: the library's sum is the definition's.
+use mathlib.Core.Path.{◌≡◌, refl, sym, ◌∙◌}
+use mathlib.Core.List.{List}
+use Prim.Native.Nat.{ℕ, ◌<◌, ◌^◌}
 use native.Mathlib.Omega.{arith}
-use Prim.Native.Nat.{◌+◌}
-use lib.ListN.{length}
-use Rattle.rules.specs.Selection.{sum_of, every}
-use Rattle.rules.specs.TakeAll.{turnover}
-use Rattle.selection.proofs.Sums.{sum_next, sum_grows, sum_list}
+use Rattle.std.proofs.Common.{rules}
+use Rattle.std.proofs.iter.runs.Made.{chains}
+use Rattle.std.specs.List.{sum as std_sum}
+use Rattle.std.proofs.lemmas.List.Recursion.{is_sum_by}
+use Rattle.rules.specs.Lists.{sum}
 use Rattle.group_least.proofs.total.Goals as goal
 
-pub loop-i-init : goal.loop-i-init
-unfolding sum_of
-loop-i-init c = (omega arith, refl)
+sum_is : (ts : List ℕ) → sum ts ≡ std_sum ts
+unfolding sum
+sum_is = is_sum_by sum (λ x. x) refl (λ _ _. refl)
 
-pub overflow_add-total : goal.overflow_add-total
-overflow_add-total c = omega (arith, sum_next every (turnover c.args.turnovers.now) c.loop-i.i, sum_grows every (turnover c.args.turnovers.now) (c.loop-i.i + 1) (length c.args.turnovers.now) (omega arith), sum_list c.args.turnovers.now, c.requires)
-
-pub loop-i-preserved : goal.loop-i-preserved
-loop-i-preserved c = (omega arith, omega (arith, sum_next every (turnover c.args.turnovers.now) c.loop-i.i))
+pub sum-requires-clause-fits : goal.sum-requires-clause-fits
+sum-requires-clause-fits c =
+    let low : std_sum c.args.turnovers.now < 2 ^ 64 = omega (arith, sum_is c.args.turnovers.now, c.requires) in
+    search (rules, chains)
 
 pub returns : goal.returns
-returns c = let e : c.loop-i.i ≡ length c.args.turnovers.now = omega arith in
-    c.loop-i.invariant.1 ∙ ap (sum_of every (turnover c.args.turnovers.now)) e ∙ sum_list c.args.turnovers.now
+returns c =
+    let all : c.sum.result ≡ std_sum c.args.turnovers.now = search (rules, chains) in
+    all ∙ sym (sum_is c.args.turnovers.now)

@@ -10,7 +10,8 @@ use Rattle.rules.specs.Tests.{◌or◌}
 use Rattle.rules.specs.Refusals.{refuse, ◌then◌}
 use Rattle.rules.specs.TakeAll.{bad_count, bad_turnovers, bad_size}
 use Rattle.rules.specs.Lists.{rising}
-use Rattle.rules.specs.Kept.{Keeping, keeping, keeping_refusal, take_all_units_refusal}
+use Rattle.rules.specs.Kept.{Keeping, keeping_refusal, take_all_units_refusal}
+use Rattle.group_keeping.specs.Keeping.{keeping_of}
 use Rattle.group_units.proofs.judge.Goals as goal
 
 module _ (ns ts : List ℕ) (z : ℕ) (p : Keeping) (units : List ℕ) (e1 : length ns ≡ length ts) (e2 : bad_count ts ≡ false) where
@@ -38,24 +39,24 @@ returns-then-bad_count c = rw (eq-eqb _ _ c.if-numbers-turnovers.false, ← c.ba
 
 pub returns-then-not-rising : goal.returns-then-not-rising
 unfolding refuse ◌then◌
-returns-then-not-rising c = rw (past_lists c.args.numbers.now c.args.turnovers.now c.args.z (keeping c.args.threshold c.args.first.now c.args.second.now) c.args.units.now c.if-numbers-turnovers.false (sym c.bad_count.ensures ∙ c.if-bad_count.false), ← c.rising.ensures, c.if-not-rising.true)
+returns-then-not-rising c = rw (past_lists c.args.numbers.now c.args.turnovers.now c.args.z (keeping_of c.args.keeping.now) c.args.units.now c.if-numbers-turnovers.false (sym c.bad_count.ensures ∙ c.if-bad_count.false), ← c.rising.ensures, c.if-not-rising.true)
 
 pub returns-then-bad_turnovers : goal.returns-then-bad_turnovers
 unfolding refuse ◌then◌
-returns-then-bad_turnovers c = rw (past_lists c.args.numbers.now c.args.turnovers.now c.args.z (keeping c.args.threshold c.args.first.now c.args.second.now) c.args.units.now c.if-numbers-turnovers.false (sym c.bad_count.ensures ∙ c.if-bad_count.false), ← c.rising.ensures, c.if-not-rising.false, ← c.bad_turnovers.ensures, c.if-bad_turnovers.true)
+returns-then-bad_turnovers c = rw (past_lists c.args.numbers.now c.args.turnovers.now c.args.z (keeping_of c.args.keeping.now) c.args.units.now c.if-numbers-turnovers.false (sym c.bad_count.ensures ∙ c.if-bad_count.false), ← c.rising.ensures, c.if-not-rising.false, ← c.bad_turnovers.ensures, c.if-bad_turnovers.true)
 
 pub returns-then-bad_size : goal.returns-then-bad_size
 unfolding refuse ◌then◌
-returns-then-bad_size c = rw (past_lists c.args.numbers.now c.args.turnovers.now c.args.z (keeping c.args.threshold c.args.first.now c.args.second.now) c.args.units.now c.if-numbers-turnovers.false (sym c.bad_count.ensures ∙ c.if-bad_count.false), ← c.rising.ensures, c.if-not-rising.false, ← c.bad_turnovers.ensures, c.if-bad_turnovers.false, ← c.bad_size.ensures, c.if-bad_size.true)
+returns-then-bad_size c = rw (past_lists c.args.numbers.now c.args.turnovers.now c.args.z (keeping_of c.args.keeping.now) c.args.units.now c.if-numbers-turnovers.false (sym c.bad_count.ensures ∙ c.if-bad_count.false), ← c.rising.ensures, c.if-not-rising.false, ← c.bad_turnovers.ensures, c.if-bad_turnovers.false, ← c.bad_size.ensures, c.if-bad_size.true)
 
 pub returns-then-units-z : goal.returns-then-units-z
 unfolding refuse ◌then◌
-returns-then-units-z c = rw (past_size c.args.numbers.now c.args.turnovers.now c.args.z (keeping c.args.threshold c.args.first.now c.args.second.now) c.args.units.now c.if-numbers-turnovers.false (sym c.bad_count.ensures ∙ c.if-bad_count.false) (sym c.rising.ensures ∙ c.if-not-rising.false) (sym c.bad_turnovers.ensures ∙ c.if-bad_turnovers.false) (sym c.bad_size.ensures ∙ c.if-bad_size.false), lt-ltb _ _ c.if-units-z.true)
+returns-then-units-z c = rw (past_size c.args.numbers.now c.args.turnovers.now c.args.z (keeping_of c.args.keeping.now) c.args.units.now c.if-numbers-turnovers.false (sym c.bad_count.ensures ∙ c.if-bad_count.false) (sym c.rising.ensures ∙ c.if-not-rising.false) (sym c.bad_turnovers.ensures ∙ c.if-bad_turnovers.false) (sym c.bad_size.ensures ∙ c.if-bad_size.false), lt-ltb _ _ c.if-units-z.true)
 
 pub returns-then-bad_keeping : goal.returns-then-bad_keeping
 unfolding keeping_refusal refuse ◌then◌
-returns-then-bad_keeping c = rw (past_size c.args.numbers.now c.args.turnovers.now c.args.z (keeping c.args.threshold c.args.first.now c.args.second.now) c.args.units.now c.if-numbers-turnovers.false (sym c.bad_count.ensures ∙ c.if-bad_count.false) (sym c.rising.ensures ∙ c.if-not-rising.false) (sym c.bad_turnovers.ensures ∙ c.if-bad_turnovers.false) (sym c.bad_size.ensures ∙ c.if-bad_size.false), le-ltb _ _ c.if-units-z.false, ← c.bad_keeping.ensures, c.if-bad_keeping.true)
+returns-then-bad_keeping c = rw (past_size c.args.numbers.now c.args.turnovers.now c.args.z (keeping_of c.args.keeping.now) c.args.units.now c.if-numbers-turnovers.false (sym c.bad_count.ensures ∙ c.if-bad_count.false) (sym c.rising.ensures ∙ c.if-not-rising.false) (sym c.bad_turnovers.ensures ∙ c.if-bad_turnovers.false) (sym c.bad_size.ensures ∙ c.if-bad_size.false), le-ltb _ _ c.if-units-z.false, ← c.bad_keeping.ensures, c.if-bad_keeping.true)
 
 pub returns : goal.returns
 unfolding keeping_refusal refuse ◌then◌
-returns c = rw (past_size c.args.numbers.now c.args.turnovers.now c.args.z (keeping c.args.threshold c.args.first.now c.args.second.now) c.args.units.now c.if-numbers-turnovers.false (sym c.bad_count.ensures ∙ c.if-bad_count.false) (sym c.rising.ensures ∙ c.if-not-rising.false) (sym c.bad_turnovers.ensures ∙ c.if-bad_turnovers.false) (sym c.bad_size.ensures ∙ c.if-bad_size.false), le-ltb _ _ c.if-units-z.false, ← c.bad_keeping.ensures, c.if-bad_keeping.false)
+returns c = rw (past_size c.args.numbers.now c.args.turnovers.now c.args.z (keeping_of c.args.keeping.now) c.args.units.now c.if-numbers-turnovers.false (sym c.bad_count.ensures ∙ c.if-bad_count.false) (sym c.rising.ensures ∙ c.if-not-rising.false) (sym c.bad_turnovers.ensures ∙ c.if-bad_turnovers.false) (sym c.bad_size.ensures ∙ c.if-bad_size.false), le-ltb _ _ c.if-units-z.false, ← c.bad_keeping.ensures, c.if-bad_keeping.false)

@@ -4,15 +4,16 @@ use mathlib.Core.List.{List}
 use Prim.Native.Nat.{ℕ, ◌≤◌}
 use native.Mathlib.Omega.{arith}
 use lib.ListN.{length, get_or}
+use Rattle.std.proofs.Common.{rules, Err}
 use Rattle.rules.specs.Refusals.{written}
 use Rattle.rules.specs.Selection.{count, listed}
-use Rattle.rules.specs.Kept.{Keeping, keeping, enlarged_group, take_all_units_refusal, take_all_units_answer, take_all_units}
-use Rattle.refusals.specs.Number.{verdict_of}
-use Rattle.refusals.proofs.Numbers.{number_is_suc}
+use Rattle.rules.specs.Kept.{Keeping, enlarged_group, take_all_units_refusal, take_all_units_answer, take_all_units}
+use Rattle.refusals.proofs.Answers.{refused_by, written_by}
 use Rattle.selection.proofs.Sums.{sum_same}
 use Rattle.selection.proofs.Listed.{listed_same}
 use Rattle.group.specs.declared.Group.{Group}
 use Rattle.group.specs.Group.{marked}
+use Rattle.group_keeping.specs.Keeping.{keeping_of}
 use Rattle.group_kept.specs.Kept.{IsEnlarged}
 use Rattle.group_kept.proofs.Enlarged.{enlarged_sound}
 use Rattle.group_units.proofs.Accepted.{Accepted, accepted}
@@ -35,25 +36,25 @@ module _ (ns ts : List ℕ) (z : ℕ) (p : Keeping) (buffer marks : List ℕ) (g
 -- the verdict is the definition's
 pub find_enlarged-g-requires : goal.find_enlarged-g-requires
 find_enlarged-g-requires c =
-    let k = accepted _ _ _ _ _ (sym c.judge-verdict.ensures ∙ ap verdict_of c.in-Accepted.is) in
+    let k = accepted _ _ _ _ _ (sym c.in_ok-judge.ensures) in
     (k.ready, k.units.few)
 
 pub write_marked-requires : goal.write_marked-requires
 write_marked-requires c =
-    let k = accepted _ _ _ _ _ (sym c.judge-verdict.ensures ∙ ap verdict_of c.in-Accepted.is) in
+    let k = accepted _ _ _ _ _ (sym c.in_ok-judge.ensures) in
     (omega (arith, k.same, k.units.few, c.find_enlarged-g.auto.marks), fits _ _ _ _ _ _ _ k c.find_enlarged-g.ensures)
 
-pub returns-in-Refused : goal.returns-in-Refused
+pub returns-in_err-judge : goal.returns-in_err-judge
 unfolding take_all_units_answer take_all_units
-returns-in-Refused c =
-    rw (sym c.judge-verdict.ensures ∙ ap verdict_of c.in-Refused.is, number_is_suc c.in-Refused.why) record { result_value = refl; units_after = refl }
+returns-in_err-judge c =
+    let told : c.from_residual.result ≡ Err c.in_err-judge.field-0.0 = search rules in
+    rw told record { result_value = refused_by _ _ c.in_err-judge.ensures _; units_after = written_by _ _ c.in_err-judge.ensures _ _ }
 
-pub returns-in-Accepted : goal.returns-in-Accepted
+pub returns : goal.returns
 unfolding take_all_units_answer take_all_units
-returns-in-Accepted c =
+returns c =
     let a = c.args in
-    let e : take_all_units_refusal a.numbers.now a.turnovers.now a.z (keeping a.threshold a.first.now a.second.now) a.units.now ≡ 0 =
-    sym c.judge-verdict.ensures ∙ ap verdict_of c.in-Accepted.is in
+    let e : take_all_units_refusal a.numbers.now a.turnovers.now a.z (keeping_of a.keeping.now) a.units.now ≡ 0 = sym c.in_ok-judge.ensures in
     let is = c.find_enlarged-g.ensures in
     rw (e, ← is.size, ← is.agrees.size_is, ← is.agrees.rest_is)
     record {

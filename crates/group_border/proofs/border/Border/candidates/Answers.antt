@@ -5,21 +5,15 @@ use Prim.Native.Nat.{ℕ}
 use native.Mathlib.Omega.{arith}
 use lib.ListN.{length, take, drop}
 use lib.Seq.{length-take-le}
-use Rattle.rules.specs.Kept.{keeping}
-use Rattle.group.specs.Group.{rules_group}
-use Rattle.group_border.specs.Border.{Candidates}
+use Rattle.group_border.specs.Searched.{CandidatesOf}
 use Rattle.group_border.proofs.Both.{in_order_lem}
-use Rattle.group_border.proofs.candidates.Goals as goal
+use Rattle.group_border.proofs.border.Border.candidates.Goals as goal
 
 -- what was gathered has its place in the list
 pub returns : goal.returns
 returns c =
-    let a = c.args in
     let g = c.gather_both-many in
     let fits : length (take g.result g.new.places) ≡ g.result =
-    length-take-le _ _ (omega (arith, g.ensures.upper_bound, g.auto.places, c.requires.listed.2)) in
-    subst
-    (λ (k : ℕ). Candidates a.numbers.now a.turnovers.now (keeping a.threshold a.first.now a.second.now) (rules_group a.marks.now a.n a.rest)
-    (c.order.new.units ++ drop g.result g.new.places) k)
-    fits
+    length-take-le _ _ (omega (arith, g.ensures.upper_bound, g.auto.places, c.requires)) in
+    subst (λ (k : ℕ). CandidatesOf c.args.self.now (c.order.new.units ++ drop g.result g.new.places) k) fits
     (in_order_lem _ _ _ _ _ _ _ g.ensures.gathered c.order.ensures c.order.auto.units)

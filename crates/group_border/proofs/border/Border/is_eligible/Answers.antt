@@ -1,0 +1,14 @@
+-- `is_eligible` meets its contract: each answer rewrites the definition by the tests that were made.
+use borrow.Author.Tests.{lt-ltb, eq-eqb, ne_eqb}
+use Rattle.rules.specs.Tests.{◌and◌}
+use Rattle.group.specs.Group.{marked}
+use Rattle.group_border.specs.Border.{eligible}
+use Rattle.group_border.proofs.border.Border.is_eligible.Goals as goal
+
+pub returns-then-self-i-eq1 : goal.returns-then-self-i-eq1
+unfolding eligible marked ◌and◌
+returns-then-self-i-eq1 c = rw (lt-ltb _ _ c.requires, eq-eqb _ _ c.if-self-i-eq1.true)
+
+pub returns : goal.returns
+unfolding eligible marked ◌and◌
+returns c = rw (lt-ltb _ _ c.requires, ne_eqb _ _ c.if-self-i-eq1.false) c.is_near.ensures
