@@ -90,8 +90,9 @@ pub fn find(keyed: &Keyed, z: usize) -> Option<Found>
     let units = list.listed();
     let scale = u64::MAX / most_numerator(keyed, units);
     let parts = parts_of(keyed, scale, units);
-    let part = draw_search::nth(&parts[..list.count], z);
-    let last = draw_search::last_unit(units, &parts, part, z);
+    let found = &parts[..list.count];
+    let part = draw_search::nth(found, z);
+    let last = draw_search::last_unit(units, found, part, z);
     let bound = Bound { scale, part, last };
     if !draw_bound::is_checked(keyed, units, &parts, bound, z) {
         return None;

@@ -2,7 +2,7 @@
 // from marks over the frame. Who is sampled, asked of a few units only, is module `told`.
 #![tactic(auto)]
 
-ghost use Rattle.std.specs.Prelude.{◌≡◌, ◌<◌, ◌≤◌, length, get_or};
+ghost use Rattle.std.specs.Prelude.{◌≡◌, ◌<◌, ◌≤◌, length, get_or, set};
 ghost use Rattle.rules.specs.Refusals.{written};
 ghost use Rattle.rules.specs.Selection.{count};
 ghost use Rattle.draw_key.specs.Keyed.{over, size_of};
@@ -44,6 +44,17 @@ impl<'a> Weighed<'a> {
         }
         self.setting.rest
     }
+
+    // Writes unit i and its W at place k.
+    fn write(&self, i: usize, k: usize, panel: &mut [u32], weights: &mut [u64])
+        requires unit { i < length self.now.turnovers.now }
+        requires place { (k < length panel.old) × (k < length weights.old) }
+        ensures panel_after { panel.new ≡ set panel.old k (get_or self.now.numbers.now i 0) }
+        ensures weights_after { weights.new ≡ set weights.old k (weight_by self.now.turnovers.now self.now.marks.now self.now.setting i) }
+    {
+        panel[k] = self.numbers[i];
+        weights[k] = self.weight(i);
+    }
 }
 
 // Writes the units that have any mark: take-all units and sampled ones.
@@ -53,10 +64,9 @@ pub fn write_marked(w: &Weighed, panel: &mut [u32], weights: &mut [u64])
     ensures weights_after { weights.new ≡ written 0 (marked_of w.now.turnovers.now w.now.marks.now (weight_by w.now.turnovers.now w.now.marks.now w.now.setting)) weights.old }
 {
     let mut k: usize = 0;
-    'units: for (i, number) in w.numbers.iter().enumerate() {
+    'units: for i in 0..w.turnovers.len() {
         if w.marks[i] != 0 {
-            panel[k] = *number;
-            weights[k] = w.weight(i);
+            w.write(i, k, panel, weights);
             k += 1;
         }
     }
@@ -99,8 +109,7 @@ pub fn write_found(w: &Weighed, found: &Found, panel: &mut [u32], weights: &mut 
     let mut k: usize = 0;
     'listed: for (i, part) in found.list.listed().iter().zip(found.parts.iter()) {
         if draw_bound::is_passed(found.bound, *part, *i) {
-            panel[k] = w.numbers[*i];
-            weights[k] = w.weight(*i);
+            w.write(*i, k, panel, weights);
             k += 1;
         }
     }

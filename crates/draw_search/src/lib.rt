@@ -1,9 +1,15 @@
 // The search for a bound. What it finds is checked afterwards, so that nothing is promised here.
 #![tactic(auto)]
 
-// How many parts are below t.
+// How many parts are below t. `filter(..).count()` was tried: the search then takes twice the time.
 fn tally(parts: &[u64], t: u64) -> usize {
-    parts.iter().filter(|part| **part < t).count()
+    let mut many: usize = 0;
+    'parts: for part in parts {
+        if *part < t {
+            many += 1;
+        }
+    }
+    many
 }
 
 // The smallest number that at least z parts do not exceed, by halves. Where that is the largest part, as with many equal keys, one count tells.
