@@ -29,14 +29,11 @@ fn list(
 {
     let told = told::tell(turnovers, randoms, gaps, s, z);
     let mut count: usize = 0;
-    let mut j: usize = 0;
-    while j < members.len() {
-        let i = members[j];
-        if !told::is_sampled(turnovers, randoms, gaps, s, told, i) {
-            places[count] = i;
+    for i in members {
+        if !told::is_sampled(turnovers, randoms, gaps, s, told, *i) {
+            places[count] = *i;
             count += 1;
         }
-        j += 1;
     }
     count
 }
@@ -66,16 +63,13 @@ fn write_numbers(numbers: &[u32], units: &[usize], out: &mut [u32])
     requires { Numbered numbers.now units.now × (length units.now ≤ length out.old) }
     ensures { out.new ≡ written 0 (numbers_of numbers.now units.now) out.old }
 {
-    let mut j: usize = 0;
-    while j < units.len() {
-        let i = units[j];
-        out[j] = numbers[i];
-        j += 1;
+    for (j, i) in units.iter().enumerate() {
+        out[j] = numbers[*i];
     }
 }
 
-// Writes the leavers' unit numbers to the front of `out`, and gives their number, with lists that have room for them.
-fn write_with(
+// Writes the leavers' unit numbers to the front of `out`, and gives their number, with room for N of them.
+fn write_in<const N: usize>(
     numbers: &[u32],
     turnovers: &[u64],
     randoms: &[u32],
@@ -83,23 +77,24 @@ fn write_with(
     members: &[usize],
     s: Setting,
     z: usize,
-    places: &mut [usize],
-    buffer: &mut [usize],
     out: &mut [u32],
 ) -> usize
     requires searched { Searched turnovers.now randoms.now gaps.now members.now s z }
-    requires members_in_bounds { (length members.now ≤ length places.old) × (length members.now ≤ length buffer.old) }
+    requires room { (length members.now ≤ N) × (N ≤ most_frame) }
     requires numbers_len { (length numbers.now ≡ length turnovers.now) × (length members.now ≤ length out.old) }
     ensures value { result ≡ leaving turnovers.now randoms.now gaps.now members.now s }
     ensures out_after { out.new ≡ written 0 (numbers_of numbers.now (units_in_order turnovers.now randoms.now gaps.now
         members.now s)) out.old }
 {
-    let count = list_in_order(turnovers, randoms, gaps, members, s, z, places, buffer);
-    write_numbers(numbers, &places[..count], out);
+    let mut places = [0usize; N];
+    let mut buffer = [0usize; N];
+    let units: &mut [usize] = &mut places;
+    let count = list_in_order(turnovers, randoms, gaps, members, s, z, units, &mut buffer);
+    write_numbers(numbers, &units[..count], out);
     count
 }
 
-// The same with lists of its own. Room for a whole frame is not laid out for a few members.
+// The same with room of its own: that for a whole frame is not laid out for a few members.
 pub fn write(
     numbers: &[u32],
     turnovers: &[u64],
@@ -117,33 +112,7 @@ pub fn write(
         members.now s)) out.old }
 {
     if members.len() <= MOST_PANEL {
-        let mut few = [0usize; MOST_PANEL];
-        let mut scratch = [0usize; MOST_PANEL];
-        return write_with(
-            numbers,
-            turnovers,
-            randoms,
-            gaps,
-            members,
-            s,
-            z,
-            &mut few,
-            &mut scratch,
-            out,
-        );
+        return write_in::<MOST_PANEL>(numbers, turnovers, randoms, gaps, members, s, z, out);
     }
-    let mut places = [0usize; MOST_FRAME];
-    let mut buffer = [0usize; MOST_FRAME];
-    write_with(
-        numbers,
-        turnovers,
-        randoms,
-        gaps,
-        members,
-        s,
-        z,
-        &mut places,
-        &mut buffer,
-        out,
-    )
+    write_in::<MOST_FRAME>(numbers, turnovers, randoms, gaps, members, s, z, out)
 }

@@ -4,8 +4,9 @@
 #![tactic(auto)]
 
 ghost use Rattle.std.specs.Prelude.{◌≡◌, ◌<◌, ◌≤◌};
+ghost use Rattle.std.specs.Option.{IfSome};
 ghost use Rattle.rules.specs.Limits.{random_range, steps};
-ghost use Rattle.rotation_step.specs.Leaving.{setting_at, leaving, first_step};
+ghost use Rattle.rotation_step.specs.Leaving.{setting_at, leaving, first_step, step_or_last};
 ghost use Rattle.rotation_step.specs.Search.{Searched};
 
 use draw_key::Setting;
@@ -17,13 +18,9 @@ pub fn setting_at(s: Setting, k: u32) -> Setting
     requires { (s.start < random_range) × (k ≤ steps) }
     ensures { result ≡ setting_at s k }
 {
-    let old = s.start;
-    let method = s.method;
     Setting {
-        method,
-        start: (old + STEP_LENGTH * k) % RANDOM_RANGE,
-        n: s.n,
-        rest: s.rest,
+        start: (s.start + STEP_LENGTH * k) % RANDOM_RANGE,
+        ..s
     }
 }
 
@@ -41,17 +38,15 @@ fn count_leavers(
 {
     let told = told::tell(turnovers, randoms, gaps, s, z);
     let mut count: usize = 0;
-    let mut j: usize = 0;
-    while j < members.len() {
-        if !told::is_sampled(turnovers, randoms, gaps, s, told, members[j]) {
+    for i in members {
+        if !told::is_sampled(turnovers, randoms, gaps, s, told, *i) {
             count += 1;
         }
-        j += 1;
     }
     count
 }
 
-// The smallest step from the setting's start at which at least `need` members are not sampled, or 1,000.
+// The smallest step from the setting's start at which at least `need` members are not sampled.
 pub fn first_step(
     turnovers: &[u64],
     randoms: &[u32],
@@ -60,18 +55,16 @@ pub fn first_step(
     s: Setting,
     z: usize,
     need: usize,
-) -> u32
+) -> Option<u32>
     requires { Searched turnovers.now randoms.now gaps.now members.now s z }
-    ensures { result ≡ first_step turnovers.now randoms.now gaps.now members.now s need }
+    ensures value { step_or_last result ≡ first_step turnovers.now randoms.now gaps.now members.now s need }
+    ensures below { IfSome result (λ k. k < steps) }
 {
-    let mut k: u32 = 0;
-    while k < STEPS {
+    for k in 0..STEPS {
         let at = setting_at(s, k);
-        let leaving = count_leavers(turnovers, randoms, gaps, members, at, z);
-        if need <= leaving {
-            return k;
+        if need <= count_leavers(turnovers, randoms, gaps, members, at, z) {
+            return Some(k);
         }
-        k += 1;
     }
-    STEPS
+    None
 }

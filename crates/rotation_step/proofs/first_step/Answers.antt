@@ -10,30 +10,30 @@ use Rattle.rotation_step.proofs.first_step.Goals as goal
 
 pub loop-k-init : goal.loop-k-init
 unfolding first_step
-loop-k-init c = (omega arith, refl)
+loop-k-init c = refl
 
 pub setting_at-at-requires : goal.setting_at-at-requires
 setting_at-at-requires c = (c.requires.units.start_low_lem, omega arith)
 
-pub count_leavers-leaving-requires : goal.count_leavers-leaving-requires
-count_leavers-leaving-requires c = moved _ _ _ _ _ _ c.requires _ _ c.setting_at-at.ensures
+pub count_leavers-requires : goal.count_leavers-requires
+count_leavers-requires c = moved _ _ _ _ _ _ c.requires _ _ c.setting_at-at.ensures
 
-pub returns-then-need-leaving : goal.returns-then-need-leaving
-returns-then-need-leaving c =
+pub returns-then-need-count_leavers-clause-value : goal.returns-then-need-count_leavers-clause-value
+returns-then-need-count_leavers-clause-value c =
     let l = c.loop-k in
-    let hit = enough _ _ _ _ _ _ _ l.k c.setting_at-at.ensures _ c.count_leavers-leaving.ensures c.if-need-leaving.true in
+    let hit = enough _ _ _ _ _ _ _ l.k c.setting_at-at.ensures _ c.count_leavers.ensures c.if-need-count_leavers.true in
     let below : l.k < steps = omega (arith, c.loop-k-test.true) in
-    sym (l.invariant.1 ∙ least_hit _ steps l.k below hit)
+    sym (l.invariant ∙ least_hit _ steps l.k below hit)
 
 pub loop-k-preserved : goal.loop-k-preserved
 loop-k-preserved c =
     let l = c.loop-k in
-    let miss = too_few _ _ _ _ _ _ _ l.k c.setting_at-at.ensures _ c.count_leavers-leaving.ensures c.if-need-leaving.false in
+    let miss = too_few _ _ _ _ _ _ _ l.k c.setting_at-at.ensures _ c.count_leavers.ensures c.if-need-count_leavers.false in
     let below : l.k < steps = omega (arith, c.loop-k-test.true) in
-    (omega arith, l.invariant.1 ∙ least_miss _ steps l.k below miss)
+    l.invariant ∙ least_miss _ steps l.k below miss
 
-pub returns : goal.returns
-returns c =
+pub returns-clause-value : goal.returns-clause-value
+returns-clause-value c =
     let l = c.loop-k in
     let last : l.k ≡ steps = omega arith in
-    sym (l.invariant.1 ∙ least_end _ steps l.k c.loop-k-test.false ∙ last)
+    sym (l.invariant ∙ least_end _ steps l.k c.loop-k-test.false ∙ last)

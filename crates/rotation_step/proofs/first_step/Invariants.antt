@@ -1,6 +1,6 @@
 -- `first_step` meets its contract: no step before k was enough, so the smallest is the smallest from k on.
 use mathlib.Core.Path.{◌≡◌}
-use Prim.Native.Nat.{◌-◌, ◌≤◌}
+use Prim.Native.Nat.{◌-◌}
 use Rattle.rules.specs.Limits.{steps}
 use Rattle.rules.specs.Selection.{least_from}
 use Rattle.rotation_step.specs.Leaving.{enough_leave, first_step}
@@ -8,9 +8,5 @@ use Rattle.rotation_step.proofs.first_step.Given as goal
 
 abbrev pub invariant-loop-k : goal.invariant-loop-k
 invariant-loop-k l =
-    (l.k ≤ steps)
-    × (first_step l.turnovers l.randoms l.gaps l.members l.s l.need
-    ≡ least_from (enough_leave l.turnovers l.randoms l.gaps l.members l.s l.need) (steps - l.k) l.k)
-
-abbrev pub decreases-loop-k : goal.decreases-loop-k
-decreases-loop-k l = steps - l.k
+    first_step l.turnovers l.randoms l.gaps l.members l.s l.need
+    ≡ least_from (enough_leave l.turnovers l.randoms l.gaps l.members l.s l.need) (steps - l.k) l.k
