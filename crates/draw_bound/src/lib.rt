@@ -6,11 +6,12 @@ ghost use Rattle.std.specs.Prelude.{◌≡◌, true, ◌*◌, ◌≤◌, ◌<◌
 ghost use Rattle.rules.specs.Limits.{most_turnover, random_range, most_panel};
 ghost use Rattle.rules.specs.Draw.{fraction_below};
 ghost use Rattle.selection.specs.Marked.{Placed};
-ghost use Rattle.draw_key.specs.Units.{Units, num_of};
+ghost use Rattle.draw_key.specs.Units.{num_of};
+ghost use Rattle.draw_key.specs.Keyed.{over, size_of};
 ghost use Rattle.draw_bound.specs.Bound.{reach_of, near, within, passes, Apart, Checked, most_word};
 
 use draw_fraction::Fraction;
-use draw_key::Setting;
+use draw_key::Keyed;
 
 // Units of a key within reach, by the whole part of key × scale: those below `part`, and of those at `part` the ones up to unit `last`.
 #[derive(Clone, Copy)]
@@ -43,10 +44,8 @@ pub fn is_near(key: Fraction, reach: u64) -> bool
 fn is_below(x: Fraction, y: Fraction) -> bool
     ensures { result ≡ fraction_below x.num x.den y.num y.den }
 {
-    if x.num == y.num {
-        if x.den == y.den {
-            return false;
-        }
+    if x == y {
+        return false;
     }
     draw_fraction::below(x, y)
 }
@@ -55,29 +54,16 @@ fn is_below(x: Fraction, y: Fraction) -> bool
 pub fn is_passed(b: Bound, part: u64, i: usize) -> bool
     ensures { result ≡ passes b part i }
 {
-    if part < b.part {
-        return true;
-    }
-    if b.part < part {
-        return false;
-    }
-    i <= b.last
+    part < b.part || (part == b.part && i <= b.last)
 }
 
 // Unit i, of the bound's own part, is by its key on the side of the bound's last unit where its number puts it.
-fn is_apart(
-    turnovers: &[u64],
-    randoms: &[u32],
-    gaps: &[u64],
-    s: Setting,
-    b: Bound,
-    i: usize,
-) -> bool
-    requires { Units turnovers.now randoms.now gaps.now s × (i < length turnovers.now) × (b.last < length turnovers.now) }
-    ensures { result ≡ true → Apart turnovers.now randoms.now gaps.now s b i }
+fn is_apart(keyed: &Keyed, b: Bound, i: usize) -> bool
+    requires { (i < size_of keyed.now) × (b.last < size_of keyed.now) }
+    ensures { result ≡ true → over Apart keyed.now b i }
 {
-    let key = draw_key::unit_key(turnovers, randoms, gaps, s, i);
-    let last = draw_key::unit_key(turnovers, randoms, gaps, s, b.last);
+    let key = keyed.key(i);
+    let last = keyed.key(b.last);
     if i <= b.last {
         return !is_below(last, key);
     }
@@ -85,57 +71,38 @@ fn is_apart(
 }
 
 // The bound is checked: exactly z of the listed units are within it, and those of its own part are parted rightly.
-pub fn is_checked(
-    turnovers: &[u64],
-    randoms: &[u32],
-    gaps: &[u64],
-    s: Setting,
-    units: &[usize],
-    parts: &[u64],
-    b: Bound,
-    z: usize,
-) -> bool
-    requires { Units turnovers.now randoms.now gaps.now s × Placed (length turnovers.now) units.now × (length units.now ≤ length parts.now) }
-    ensures { result ≡ true → Checked turnovers.now randoms.now gaps.now s units.now parts.now b z }
+pub fn is_checked(keyed: &Keyed, units: &[usize], parts: &[u64], b: Bound, z: usize) -> bool
+    requires { Placed (size_of keyed.now) units.now × (length units.now ≤ length parts.now) }
+    ensures { result ≡ true → over Checked keyed.now units.now parts.now b z }
 {
     if b.part == 0 {
         return false;
     }
-    if turnovers.len() <= b.last {
+    if keyed.turnovers.len() <= b.last {
         return false;
     }
     let mut many: usize = 0;
-    let mut j: usize = 0;
-    while j < units.len() {
-        let i = units[j];
-        if parts[j] == b.part {
-            if !is_apart(turnovers, randoms, gaps, s, b, i) {
+    'listed: for (i, part) in units.iter().zip(parts) {
+        if *part == b.part {
+            if !is_apart(keyed, b, *i) {
                 return false;
             }
         }
-        if is_passed(b, parts[j], i) {
+        if is_passed(b, *part, *i) {
             many += 1;
         }
-        j += 1;
     }
     many == z
 }
 
 // Unit i is within a bound.
-pub fn is_within(
-    turnovers: &[u64],
-    randoms: &[u32],
-    gaps: &[u64],
-    s: Setting,
-    b: Bound,
-    i: usize,
-) -> bool
-    requires units { Units turnovers.now randoms.now gaps.now s × (i < length turnovers.now) }
-    requires scale_bound { near turnovers.now randoms.now gaps.now s i ≡ true → num_of randoms.now gaps.now s i * b.scale ≤ most_word }
-    ensures { result ≡ within turnovers.now randoms.now gaps.now s b i }
+pub fn is_within(keyed: &Keyed, b: Bound, i: usize) -> bool
+    requires unit { i < size_of keyed.now }
+    requires scale_bound { over near keyed.now i ≡ true → num_of keyed.now.randoms.now keyed.now.gaps.now keyed.now.setting i * b.scale ≤ most_word }
+    ensures { result ≡ over within keyed.now b i }
 {
-    let reach = reach_of(s.n);
-    let key = draw_key::unit_key(turnovers, randoms, gaps, s, i);
+    let reach = reach_of(keyed.setting.n);
+    let key = keyed.key(i);
     if !is_near(key, reach) {
         return false;
     }

@@ -1,12 +1,15 @@
 -- `fraction_below` orders fractions strictly: of a fraction and itself neither is below; and, for positive denominators,
 -- both "below" and "not below" carry over a third fraction. Shown by multiplying the cross products by the third denominator.
 use Prim.Native.Nat.{ℕ, ◌*◌, ◌<◌}
-use mathlib.Core.Bool.{true, false}
+use mathlib.Core.Bool.{true, false, ◌&&◌}
 use mathlib.Core.Path.{◌≡◌, refl, ◌∙◌}
 use native.Mathlib.Nat.{mul-le-mul_right, le_of_mul-le-mul_right}
 use native.Mathlib.Omega.{arith}
-use borrow.Author.Tests.{ltb-true, ltb-false, le-ltb}
+use lib.Dec.{eqb}
+use borrow.Author.Tests.{ltb-true, ltb-false, le-ltb, eqb-true}
+use Rattle.std.proofs.lemmas.Bool.{and_parts}
 use Rattle.rules.specs.Draw.{fraction_below}
+use Rattle.draw_fraction.specs.declared.Fraction.{Fraction}
 
 -- a fraction is not below itself
 pub irreflexive : (a b : ℕ) → fraction_below a b a b ≡ false
@@ -33,9 +36,11 @@ not_below_transitive a b c d e f hb hd hf h k =
     ))
     hd)
 
--- fractions of the same terms compare alike, and of two of the same terms neither is below the other
+-- fractions of the same terms compare alike, and of two equal ones neither is below the other
 pub same_fractions : {a b c d a' b' c' d' : ℕ} → a ≡ a' → b ≡ b' → c ≡ c' → d ≡ d' → fraction_below a b c d ≡ fraction_below a' b' c' d'
 same_fractions e f g h = cc
 
-pub same_terms : (a b c d : ℕ) → a ≡ c → b ≡ d → fraction_below a b c d ≡ false
-same_terms a b c d e f = same_fractions e f refl refl ∙ irreflexive c d
+pub equal_fractions : (x y : Fraction) → (eqb x.num y.num && eqb x.den y.den) ≡ true → fraction_below x.num x.den y.num y.den ≡ false
+equal_fractions x y h =
+    let both = and_parts (eqb x.num y.num) (eqb x.den y.den) h in
+    same_fractions (eqb-true _ _ both.0) (eqb-true _ _ both.1) refl refl ∙ irreflexive y.num y.den

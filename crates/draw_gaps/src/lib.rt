@@ -17,13 +17,11 @@ pub fn fill(turnovers: &[u64], marks: &[u8], method: Method, n: usize, rest: u64
     ensures { Gaps turnovers.now marks.now method n rest gaps.new }
 {
     let off = draw_key::taken_off(method, n as u64);
-    let mut i: usize = 0;
-    while i < turnovers.len() {
+    'units: for (i, turnover) in turnovers.iter().enumerate() {
         if marks[i] == 1 {
             gaps[i] = 0;
         } else {
-            gaps[i] = draw_key::gap(turnovers[i], rest, off);
+            gaps[i] = draw_key::gap(*turnover, rest, off);
         }
-        i += 1;
     }
 }

@@ -6,7 +6,7 @@ ghost use Rattle.std.specs.Prelude.{◌≡◌, ◌-◌, ◌*◌, ◌<◌, ◌≤
 ghost use Rattle.rules.specs.Limits.{most_turnover, random_range, most_panel};
 ghost use Rattle.rules.specs.Draw.{shifted};
 ghost use Rattle.draw_key.specs.Methods.{taken_off, denominator_by};
-ghost use Rattle.draw_key.specs.Units.{Units, UnitKey};
+ghost use Rattle.draw_key.specs.Units.{Units};
 
 use draw_fraction::Fraction;
 use limits::RANDOM_RANGE;
@@ -59,6 +59,7 @@ impl Permanent {
 
 // What a Pareto key takes off X and off 1,000,000. A sequential Poisson key takes nothing off: it is r × X over 1,000,000 × turnover, which is r over
 // turnover times a factor that all keys have, so that both keys are one fraction.
+#[tactic(auto, unfolding(crate::specs::Methods::taken_off))]
 pub fn taken_off(method: Method, amount: u64) -> u64
     ensures { result ≡ taken_off method amount }
 {
@@ -73,11 +74,7 @@ pub fn gap(turnover: u64, rest: u64, size: u64) -> u64
     requires { (turnover ≤ most_turnover) × (size ≤ most_panel) }
     ensures { result ≡ rest - size * turnover }
 {
-    let reached = size * turnover;
-    if rest < reached {
-        return 0;
-    }
-    rest - reached
+    rest.saturating_sub(size * turnover)
 }
 
 // "r × (X − n × turnover) over (1,000,000 − r) × turnover" (formula 22 without the common factor n), where the gap is known; for sequential Poisson
@@ -86,21 +83,36 @@ pub fn key_over(method: Method, turnover: u64, r: Shifted, gap: u64) -> Fraction
     requires { (turnover ≤ most_turnover) × (r.0 < random_range) × (gap ≤ most_turnover) }
     ensures { (result.num ≡ r.0 * gap) × (result.den ≡ denominator_by method turnover r.0) }
 {
-    let near = r.0 as u64;
-    let far = (RANDOM_RANGE as u64) - taken_off(method, near);
+    let near = u64::from(r.0);
+    let far = u64::from(RANDOM_RANGE) - taken_off(method, near);
     Fraction {
         num: near * gap,
         den: far * turnover,
     }
 }
 
-// The key of unit i, of which the gap is known.
-pub fn unit_key(turnovers: &[u64], randoms: &[u32], gaps: &[u64], s: Setting, i: usize) -> Fraction
-    requires { Units turnovers.now randoms.now gaps.now s × (i < length turnovers.now) }
-    ensures { UnitKey turnovers.now randoms.now gaps.now s i result }
-{
-    let random = Permanent(randoms[i]);
-    let shifted = random.shift(s.start);
-    let method = s.method;
-    key_over(method, turnovers[i], shifted, gaps[i])
+// The units of a frame with their gaps, under a setting: ready for keys that fit 64 bits.
+#[derive(Clone, Copy)]
+pub struct Keyed<'a> {
+    pub turnovers: &'a [u64],
+    pub randoms: &'a [u32],
+    pub gaps: &'a [u64],
+    pub setting: Setting,
+    pub ghost units: { Units turnovers.now randoms.now gaps.now setting },
+}
+
+impl<'a> Keyed<'a> {
+    ghost use Rattle.draw_key.specs.Units.{UnitKey};
+    ghost use Rattle.draw_key.specs.Keyed.{over};
+
+    // The key of unit i.
+    pub fn key(&self, i: usize) -> Fraction
+        requires { i < length self.now.turnovers.now }
+        ensures { over UnitKey self.now i result }
+    {
+        let random = Permanent(self.randoms[i]);
+        let shifted = random.shift(self.setting.start);
+        let method = self.setting.method;
+        key_over(method, self.turnovers[i], shifted, self.gaps[i])
+    }
 }

@@ -1,4 +1,4 @@
--- The short list and what is found with it: a bound of z units, where that is checked.
+-- The short list and what is found with it: a bound of z units.
 use Rattle.std.specs.Prelude.{ℕ, ◌*◌, ◌≤◌, ◌<◌, Bool, true, false, ◌≡◌, List, length, get_or}
 use Rattle.rules.specs.Selection.{count, listed}
 use Rattle.selection.specs.Held.{Held}
@@ -6,19 +6,11 @@ use Rattle.draw_key.specs.declared.Setting.{Setting}
 use Rattle.draw_key.specs.Units.{num_of, key_less}
 use Rattle.draw_bound.specs.declared.Bound.{Bound}
 use Rattle.draw_bound.specs.Bound.{near, part_of, passes, within, most_word}
-use Rattle.draw_list.specs.declared.Shortlist.{Shortlist}
-use Rattle.draw_list.specs.declared.Found.{Found}
-
--- units on a short list
-abbrev pub list_room : ℕ
-list_room = 256
+use Rattle.draw_list.specs.declared.found.Found.{Found}
 
 -- the short-listed among the first `seen` units, in the order of their numbers
-pub record Listed (ts rs gs : List ℕ) (s : Setting) (r : Shortlist) : Type 0 where
-  pub room : length r.units ≡ list_room
-  pub few : r.count ≤ list_room
-  pub within_frame : r.seen ≤ length ts
-  pub holds : Held (near ts rs gs s) (λ i. i) r.seen r.units r.count
+pub record Listed (ts rs gs : List ℕ) (s : Setting) (seen : ℕ) (units : List ℕ) (count : ℕ) : Type 0 where
+  pub holds : Held (near ts rs gs s) (λ i. i) seen units count
 
 -- no numerator of a listed unit's key is above m
 pub record Under (rs gs : List ℕ) (s : Setting) (units : List ℕ) (m : ℕ) : Type 0 where
@@ -43,27 +35,21 @@ pub record Bounds (ts rs gs : List ℕ) (s : Setting) (z : ℕ) (b : Bound) : Ty
       → part_of ts rs gs s b.scale i ≡ b.part → part_of ts rs gs s b.scale j ≡ b.part
       → i ≤ b.last → b.last < j → key_less ts rs gs s j i ≡ false
 
--- what is found, where it is sure: the short list of the whole frame with its parts, and a bound of z units
+-- what is found: the short list of the whole frame with its parts, and a bound of z units
 pub record IsFound (ts rs gs : List ℕ) (s : Setting) (z : ℕ) (r : Found) : Type 0 where
   pub sampled : 0 < s.n
   pub bounds : Bounds ts rs gs s z r.bound
-  pub units_room : length r.units ≡ list_room
-  pub parts_room : length r.parts ≡ list_room
-  pub few : r.count ≤ list_room
-  pub holds : Held (near ts rs gs s) (λ i. i) (length ts) r.units r.count
-  pub parts_are : (j : ℕ) → j < r.count → get_or r.parts j 0 ≡ part_of ts rs gs s r.bound.scale (get_or r.units j 0)
+  pub holds : Held (near ts rs gs s) (λ i. i) (length ts) r.list.units r.list.count
+  pub parts_are : (j : ℕ) → j < r.list.count → get_or r.parts j 0 ≡ part_of ts rs gs s r.bound.scale (get_or r.list.units j 0)
 
 -- the unit at place j of what is found passes
 abbrev pub passing : Found → ℕ → Bool
-passing r j = passes r.bound (get_or r.parts j 0) (get_or r.units j 0)
+passing r j = passes r.bound (get_or r.parts j 0) (get_or r.list.units j 0)
 
 -- f of the listed units that pass
 abbrev pub found_of : Found → (ℕ → ℕ) → List ℕ
-found_of r f = listed (passing r) (λ j. f (get_or r.units j 0)) r.count
+found_of r f = listed (passing r) (λ j. f (get_or r.list.units j 0)) r.list.count
 
 -- what is found as a list: units of a frame of n
 pub record Passing (n : ℕ) (r : Found) : Type 0 where
-  pub units_room : length r.units ≡ list_room
-  pub parts_room : length r.parts ≡ list_room
-  pub few : r.count ≤ list_room
-  pub low : (j : ℕ) → j < r.count → get_or r.units j 0 < n
+  pub low : (j : ℕ) → j < r.list.count → get_or r.list.units j 0 < n

@@ -4,186 +4,97 @@
 // check fails nothing is answered, and the caller orders the keys instead.
 #![tactic(auto)]
 
-ghost use Rattle.std.specs.Prelude.{◌≡◌, true, false, ◌≤◌, ◌<◌, length};
+ghost use Rattle.std.specs.Prelude.{◌≡◌, ◌≤◌, ◌<◌, length, IfSome};
 ghost use Rattle.selection.specs.Marked.{Placed};
-ghost use Rattle.draw_key.specs.Units.{Units};
-ghost use Rattle.draw_list.specs.Found.{Listed, Under, Scaled, Parts, IsFound, list_room};
+ghost use Rattle.draw_key.specs.Keyed.{over, size_of};
+ghost use Rattle.draw_list.specs.Room.{list_room};
+ghost use Rattle.draw_list.specs.Found.{Listed, Under, Scaled, Parts, IsFound};
 
 use draw_bound::Bound;
-use draw_key::Setting;
+use draw_key::Keyed;
+use found::{Found, Shortlist};
+
+pub mod found;
 
 // Units on a short list.
 pub const ROOM: usize = 256;
 
-// The largest number of 64 bits.
-pub const MOST_WORD: u64 = 18446744073709551615;
-
-// The short-listed among the first `seen` units of a frame.
-#[derive(Drop)]
-pub struct Shortlist {
-    pub units: [usize; ROOM],
-    pub count: usize,
-    pub seen: usize,
-}
-
-// What is found: the short list with its units' parts, and a bound, which holds only where it is sure.
-#[derive(Drop)]
-pub struct Found {
-    pub units: [usize; ROOM],
-    pub parts: [u64; ROOM],
-    pub count: usize,
-    pub bound: Bound,
-    pub sure: bool,
-}
-
-// The short list of a frame; it ends early where it is full.
-pub fn collect(turnovers: &[u64], randoms: &[u32], gaps: &[u64], s: Setting) -> Shortlist
-    requires { Units turnovers.now randoms.now gaps.now s }
-    ensures { Listed turnovers.now randoms.now gaps.now s result }
+// The short list of a frame; None where it has no room for all of them.
+pub fn collect(keyed: &Keyed) -> Option<Shortlist>
+    ensures { IfSome result (λ list. over Listed keyed.now (size_of keyed.now) list.units list.count) }
 {
-    let reach = draw_bound::reach_of(s.n);
+    let reach = draw_bound::reach_of(keyed.setting.n);
     let mut units = [0usize; ROOM];
     let mut count: usize = 0;
-    let mut i: usize = 0;
-    while i < turnovers.len() {
-        let key = draw_key::unit_key(turnovers, randoms, gaps, s, i);
-        if draw_bound::is_near(key, reach) {
+    'units: for i in 0..keyed.turnovers.len() {
+        if draw_bound::is_near(keyed.key(i), reach) {
             if ROOM <= count {
-                return Shortlist {
-                    units,
-                    count,
-                    seen: i,
-                };
+                return None;
             }
             units[count] = i;
             count += 1;
         }
-        i += 1;
     }
-    Shortlist {
-        units,
-        count,
-        seen: i,
-    }
+    Some(Shortlist { units, count })
 }
 
 // The largest numerator of the listed units' keys, and at least 1.
-fn most_numerator(
-    turnovers: &[u64],
-    randoms: &[u32],
-    gaps: &[u64],
-    s: Setting,
-    units: &[usize],
-) -> u64
-    requires { Units turnovers.now randoms.now gaps.now s × Placed (length turnovers.now) units.now }
-    ensures { (0 < result) × Under randoms.now gaps.now s units.now result }
+fn most_numerator(keyed: &Keyed, units: &[usize]) -> u64
+    requires { Placed (size_of keyed.now) units.now }
+    ensures { (0 < result) × Under keyed.now.randoms.now keyed.now.gaps.now keyed.now.setting units.now result }
 {
     let mut most: u64 = 1;
-    let mut j: usize = 0;
-    while j < units.len() {
-        let key = draw_key::unit_key(turnovers, randoms, gaps, s, units[j]);
-        if most < key.num {
-            most = key.num;
-        }
-        j += 1;
+    'units: for i in units {
+        most = most.max(keyed.key(*i).num);
     }
     most
 }
 
 // The parts of the listed units: the whole part of key × scale.
-fn parts_of(
-    turnovers: &[u64],
-    randoms: &[u32],
-    gaps: &[u64],
-    s: Setting,
-    scale: u64,
-    units: &[usize],
-) -> [u64; ROOM]
-    requires units { Units turnovers.now randoms.now gaps.now s × Placed (length turnovers.now) units.now }
-    requires scaled { Scaled randoms.now gaps.now s units.now scale × (length units.now ≤ list_room) }
-    ensures { (length result ≡ list_room) × Parts turnovers.now randoms.now gaps.now s scale units.now result }
+fn parts_of(keyed: &Keyed, scale: u64, units: &[usize]) -> [u64; ROOM]
+    requires units { Placed (size_of keyed.now) units.now × (length units.now ≤ list_room) }
+    requires scaled { Scaled keyed.now.randoms.now keyed.now.gaps.now keyed.now.setting units.now scale }
+    ensures { (length result ≡ list_room) × over Parts keyed.now scale units.now result }
 {
     let mut parts = [0u64; ROOM];
-    let mut j: usize = 0;
-    while j < units.len() {
-        let key = draw_key::unit_key(turnovers, randoms, gaps, s, units[j]);
+    'units: for (j, i) in units.iter().enumerate() {
+        let key = keyed.key(*i);
         parts[j] = key.num * scale / key.den;
-        j += 1;
     }
     parts
 }
 
-// Nothing is found.
-fn nothing() -> Found
-    ensures { result.sure ≡ false }
-{
-    Found {
-        units: [0usize; ROOM],
-        parts: [0u64; ROOM],
-        count: 0,
-        bound: Bound {
-            scale: 1,
-            part: 0,
-            last: 0,
-        },
-        sure: false,
-    }
-}
-
 // One unit in sixteen is asked first: where none of them is near, as with random numbers that are not spread, a whole pass would find too few.
-fn is_worth(turnovers: &[u64], randoms: &[u32], gaps: &[u64], s: Setting) -> bool
-    requires { Units turnovers.now randoms.now gaps.now s }
-{
-    let reach = draw_bound::reach_of(s.n);
-    let mut i: usize = 0;
-    while i < turnovers.len() {
-        let key = draw_key::unit_key(turnovers, randoms, gaps, s, i);
-        if draw_bound::is_near(key, reach) {
+fn is_worth(keyed: &Keyed) -> bool {
+    let reach = draw_bound::reach_of(keyed.setting.n);
+    // `(0..n).step_by(16).any(..)` was tried: that the closure may be called at each number was not shown.
+    'sixteenths: for k in 0..keyed.turnovers.len().div_ceil(16) {
+        if draw_bound::is_near(keyed.key(16 * k), reach) {
             return true;
         }
-        i += 16;
     }
     false
 }
 
-// Looks for a bound of z units. It is not sure where none is sampled, where the short list is too short or too long, or where the check fails.
-pub fn find(turnovers: &[u64], randoms: &[u32], gaps: &[u64], s: Setting, z: usize) -> Found
-    requires { Units turnovers.now randoms.now gaps.now s }
-    ensures { result.sure ≡ true → IsFound turnovers.now randoms.now gaps.now s z result }
+// Looks for a bound of z units. There is none where nobody is sampled, where the short list is too short or too long, or where the check fails.
+pub fn find(keyed: &Keyed, z: usize) -> Option<Found>
+    ensures { IfSome result (over IsFound keyed.now z) }
 {
-    if s.n == 0 {
-        return nothing();
+    if keyed.setting.n == 0 {
+        return None;
     }
-    if !is_worth(turnovers, randoms, gaps, s) {
-        return nothing();
+    if !is_worth(keyed) {
+        return None;
     }
-    let list = collect(turnovers, randoms, gaps, s);
-    if list.seen < turnovers.len() {
-        return nothing();
-    }
-    let units = list.units;
-    let count = list.count;
-    let most = most_numerator(turnovers, randoms, gaps, s, &units[..count]);
-    let scale = MOST_WORD / most;
-    let parts = parts_of(turnovers, randoms, gaps, s, scale, &units[..count]);
-    let part = draw_search::nth(&parts[..count], z);
-    let last = draw_search::last_unit(&units[..count], &parts[..count], part, z);
+    let list = collect(keyed)?;
+    let units = list.listed();
+    let scale = u64::MAX / most_numerator(keyed, units);
+    let parts = parts_of(keyed, scale, units);
+    let part = draw_search::nth(&parts[..list.count], z);
+    let last = draw_search::last_unit(units, &parts, part, z);
     let bound = Bound { scale, part, last };
-    let sure = draw_bound::is_checked(
-        turnovers,
-        randoms,
-        gaps,
-        s,
-        &units[..count],
-        &parts,
-        bound,
-        z,
-    );
-    Found {
-        units,
-        parts,
-        count,
-        bound,
-        sure,
+    if !draw_bound::is_checked(keyed, units, &parts, bound, z) {
+        return None;
     }
+    Some(Found { list, parts, bound })
 }

@@ -2,113 +2,106 @@
 // from marks over the frame. Who is sampled, asked of a few units only, is module `told`.
 #![tactic(auto)]
 
-pub mod told;
-
 ghost use Rattle.std.specs.Prelude.{◌≡◌, ◌<◌, ◌≤◌, length, get_or};
 ghost use Rattle.rules.specs.Refusals.{written};
 ghost use Rattle.rules.specs.Selection.{count};
-ghost use Rattle.draw_key.specs.Units.{Units};
+ghost use Rattle.draw_key.specs.Keyed.{over, size_of};
 ghost use Rattle.draw_list.specs.Found.{passing, found_of, Passing};
 ghost use Rattle.draw_panel.specs.Panel.{Weighable, Markable, weight_by, marked_size, marked_of, panel_size, panel_of};
 
-use draw_key::Setting;
-use draw_list::Found;
+use draw_key::{Keyed, Setting};
+use draw_list::found::Found;
 use limits::MOST_PANEL;
+
+pub mod told;
 
 // The mark of a sampled unit; a take-all unit has 1.
 const SAMPLED: u8 = 2;
 
-// W of unit i: X for a sampled unit, n × its turnover for a take-all unit, and its turnover under cut-off.
-#[tactic(auto, unfolding(rules::specs::TakeAll::base_weight, group::specs::Group::marked))]
-fn weight_of(turnovers: &[u64], marks: &[u8], s: Setting, i: usize) -> u64
-    requires { Weighable turnovers.now marks.now s × (i < length turnovers.now) }
-    ensures { result ≡ weight_by turnovers.now marks.now s i }
-{
-    if s.n == 0 {
-        return turnovers[i];
+// The units of a frame with their marks, under a setting: ready for a W that fits 64 bits.
+#[derive(Clone, Copy)]
+pub struct Weighed<'a> {
+    pub numbers: &'a [u32],
+    pub turnovers: &'a [u64],
+    pub marks: &'a [u8],
+    pub setting: Setting,
+    pub ghost weighable: { Weighable turnovers.now marks.now setting },
+    pub ghost numbered: { length numbers.now ≡ length turnovers.now },
+}
+
+impl<'a> Weighed<'a> {
+    // W of unit i: X for a sampled unit, n × its turnover for a take-all unit, and its turnover under cut-off.
+    #[tactic(auto, unfolding(rules::specs::TakeAll::base_weight, group::specs::Group::marked))]
+    fn weight(&self, i: usize) -> u64
+        requires { i < length self.now.turnovers.now }
+        ensures { result ≡ weight_by self.now.turnovers.now self.now.marks.now self.now.setting i }
+    {
+        if self.setting.n == 0 {
+            return self.turnovers[i];
+        }
+        if self.marks[i] == 1 {
+            return (self.setting.n as u64) * self.turnovers[i];
+        }
+        self.setting.rest
     }
-    if marks[i] == 1 {
-        return (s.n as u64) * turnovers[i];
-    }
-    s.rest
 }
 
 // Writes the units that have any mark: take-all units and sampled ones.
-pub fn write_marked(
-    numbers: &[u32],
-    turnovers: &[u64],
-    marks: &[u8],
-    s: Setting,
-    panel: &mut [u32],
-    weights: &mut [u64],
-)
-    requires weighable { Weighable turnovers.now marks.now s × (length numbers.now ≡ length turnovers.now) }
-    requires marks_in_bounds { (marked_size turnovers.now marks.now ≤ length panel.old) × (marked_size turnovers.now marks.now ≤ length weights.old) }
-    ensures panel_after { panel.new ≡ written 0 (marked_of turnovers.now marks.now (λ i. get_or numbers.now i 0)) panel.old }
-    ensures weights_after { weights.new ≡ written 0 (marked_of turnovers.now marks.now (weight_by turnovers.now marks.now s)) weights.old }
+pub fn write_marked(w: &Weighed, panel: &mut [u32], weights: &mut [u64])
+    requires { (marked_size w.now.turnovers.now w.now.marks.now ≤ length panel.old) × (marked_size w.now.turnovers.now w.now.marks.now ≤ length weights.old) }
+    ensures panel_after { panel.new ≡ written 0 (marked_of w.now.turnovers.now w.now.marks.now (λ i. get_or w.now.numbers.now i 0)) panel.old }
+    ensures weights_after { weights.new ≡ written 0 (marked_of w.now.turnovers.now w.now.marks.now (weight_by w.now.turnovers.now w.now.marks.now w.now.setting)) weights.old }
 {
     let mut k: usize = 0;
-    let mut i: usize = 0;
-    while i < turnovers.len() {
-        if marks[i] != 0 {
-            panel[k] = numbers[i];
-            weights[k] = weight_of(turnovers, marks, s, i);
+    'units: for (i, number) in w.numbers.iter().enumerate() {
+        if w.marks[i] != 0 {
+            panel[k] = *number;
+            weights[k] = w.weight(i);
             k += 1;
         }
-        i += 1;
     }
 }
 
 // Writes the panel by putting the keys in order: where no short list decides. The sampled units get a mark of their own beside the take-all units.
 pub fn write_ordered(
     numbers: &[u32],
-    turnovers: &[u64],
-    randoms: &[u32],
-    gaps: &[u64],
-    s: Setting,
+    keyed: &Keyed,
     marks: &mut [u8],
     panel: &mut [u32],
     weights: &mut [u64],
 )
-    requires units { Units turnovers.now randoms.now gaps.now s × Weighable turnovers.now marks.old s × Markable turnovers.now gaps.now marks.old }
-    requires numbers_len { (length numbers.now ≡ length turnovers.now) × (panel_size turnovers.now randoms.now gaps.now marks.old s ≤ length panel.old) × (panel_size turnovers.now randoms.now gaps.now marks.old s ≤ length weights.old) }
-    ensures panel_after { panel.new ≡ written 0 (panel_of turnovers.now randoms.now gaps.now marks.old s (λ i. get_or numbers.now i 0)) panel.old }
-    ensures weights_after { weights.new ≡ written 0 (panel_of turnovers.now randoms.now gaps.now marks.old s (weight_by turnovers.now marks.old s)) weights.old }
+    requires markable { Weighable keyed.now.turnovers.now marks.old keyed.now.setting × Markable keyed.now.turnovers.now keyed.now.gaps.now marks.old }
+    requires numbers_len { (length numbers.now ≡ size_of keyed.now) × (panel_size keyed.now.turnovers.now keyed.now.randoms.now keyed.now.gaps.now marks.old keyed.now.setting ≤ length panel.old)
+        × (panel_size keyed.now.turnovers.now keyed.now.randoms.now keyed.now.gaps.now marks.old keyed.now.setting ≤ length weights.old) }
+    ensures panel_after { panel.new ≡ written 0 (panel_of keyed.now.turnovers.now keyed.now.randoms.now keyed.now.gaps.now marks.old keyed.now.setting (λ i. get_or numbers.now i 0)) panel.old }
+    ensures weights_after { weights.new ≡ written 0 (panel_of keyed.now.turnovers.now keyed.now.randoms.now keyed.now.gaps.now marks.old keyed.now.setting
+        (weight_by keyed.now.turnovers.now marks.old keyed.now.setting)) weights.old }
 {
     let mut units = [0usize; MOST_PANEL];
-    draw_order::sampled_units(turnovers, randoms, gaps, s, &mut units);
-    selection::mark(&units[..s.n], SAMPLED, marks);
-    write_marked(numbers, turnovers, marks, s, panel, weights);
+    draw_order::sampled_units(keyed, &mut units);
+    selection::mark(&units[..keyed.setting.n], SAMPLED, marks);
+    let weighed = Weighed {
+        numbers,
+        turnovers: keyed.turnovers,
+        marks,
+        setting: keyed.setting,
+    };
+    write_marked(&weighed, panel, weights);
 }
 
 // Writes the units of a short list that are within its bound, in the order of their numbers.
-pub fn write_found(
-    numbers: &[u32],
-    turnovers: &[u64],
-    marks: &[u8],
-    s: Setting,
-    found: Found,
-    panel: &mut [u32],
-    weights: &mut [u64],
-)
-    requires weighable { Weighable turnovers.now marks.now s × (length numbers.now ≡ length turnovers.now) × Passing (length turnovers.now) found }
-    requires count_in_bounds { (count (passing found) found.count ≤ length panel.old) × (count (passing found) found.count ≤ length weights.old) }
-    ensures panel_after { panel.new ≡ written 0 (found_of found (λ i. get_or numbers.now i 0)) panel.old }
-    ensures weights_after { weights.new ≡ written 0 (found_of found (weight_by turnovers.now marks.now s)) weights.old }
+pub fn write_found(w: &Weighed, found: &Found, panel: &mut [u32], weights: &mut [u64])
+    requires passing { Passing (length w.now.turnovers.now) found.now }
+    requires count_in_bounds { (count (passing found.now) found.now.list.count ≤ length panel.old) × (count (passing found.now) found.now.list.count ≤ length weights.old) }
+    ensures panel_after { panel.new ≡ written 0 (found_of found.now (λ i. get_or w.now.numbers.now i 0)) panel.old }
+    ensures weights_after { weights.new ≡ written 0 (found_of found.now (weight_by w.now.turnovers.now w.now.marks.now w.now.setting)) weights.old }
 {
-    let units = found.units;
-    let parts = found.parts;
-    let bound = found.bound;
-    let many = found.count;
     let mut k: usize = 0;
-    let mut j: usize = 0;
-    while j < many {
-        let i = units[j];
-        if draw_bound::is_passed(bound, parts[j], i) {
-            panel[k] = numbers[i];
-            weights[k] = weight_of(turnovers, marks, s, i);
+    'listed: for (i, part) in found.list.listed().iter().zip(found.parts.iter()) {
+        if draw_bound::is_passed(found.bound, *part, *i) {
+            panel[k] = w.numbers[*i];
+            weights[k] = w.weight(*i);
             k += 1;
         }
-        j += 1;
     }
 }

@@ -2,13 +2,13 @@
 // tests which of two keys is below the other.
 #![tactic(auto)]
 
-ghost use Rattle.std.specs.Prelude.{◌≡◌, true, false, ◌*◌, ◌<◌, ◌/◌, length};
+ghost use Rattle.std.specs.Prelude.{◌≡◌, true, false, ◌*◌, ◌<◌, ◌/◌};
 ghost use Rattle.rules.specs.Draw.{fraction_below};
-ghost use Rattle.draw_key.specs.Units.{Units};
-ghost use Rattle.draw_terms.specs.Terms.{Divided, IsKey, Narrow};
+ghost use Rattle.draw_key.specs.Keyed.{over, size_of};
+ghost use Rattle.draw_terms.specs.Divided.{Divided, Narrow};
 
 use draw_fraction::Fraction;
-use draw_key::Setting;
+use draw_key::Keyed;
 
 // The key of a unit, with its whole part.
 #[derive(Clone, Copy)]
@@ -16,19 +16,7 @@ pub struct Key {
     pub unit: usize,
     pub terms: Fraction,
     pub whole: u64,
-}
-
-// The key of unit i.
-pub fn key_of(turnovers: &[u64], randoms: &[u32], gaps: &[u64], s: Setting, i: usize) -> Key
-    requires { Units turnovers.now randoms.now gaps.now s × (i < length turnovers.now) }
-    ensures { IsKey turnovers.now randoms.now gaps.now s i result }
-{
-    let terms = draw_key::unit_key(turnovers, randoms, gaps, s, i);
-    Key {
-        unit: i,
-        terms,
-        whole: terms.num / terms.den,
-    }
+    pub ghost divided: { Divided terms whole },
 }
 
 // A product of a denominator by at most 18 × n stays within 64 bits: for a key that is not 0, n × den is at most 10^18.
@@ -52,60 +40,74 @@ fn beyond(terms: Fraction, whole: u64, n: u64) -> bool
     true
 }
 
-// The key of these terms is not below key b, told without a division: no smaller a numerator over no larger a denominator, as of units of one turnover,
-// or a key beyond. Where the answer is false it is not yet decided.
-pub fn no_better(terms: Fraction, b: Key, n: u64) -> bool
-    requires { Narrow n terms × Divided b }
-    ensures { result ≡ true → fraction_below terms.num terms.den b.terms.num b.terms.den ≡ false }
-{
-    if b.terms.num <= terms.num {
-        if terms.den <= b.terms.den {
-            return true;
-        }
-    }
-    beyond(terms, b.whole, n)
-}
+impl Key {
+    ghost use Rattle.draw_terms.specs.Terms.{IsKey};
 
-// Key a is below key b. Keys of the same terms are equal: no remainder is divided.
-pub fn below(a: Key, b: Key) -> bool
-    requires { Divided a × Divided b }
-    ensures { result ≡ fraction_below a.terms.num a.terms.den b.terms.num b.terms.den }
-{
-    if a.terms.num == b.terms.num {
-        if a.terms.den == b.terms.den {
-            return false;
-        }
-    }
-    draw_fraction::below_by_parts(a.terms, a.whole, b.terms, b.whole)
-}
-
-// Key a is below the key of these terms: their whole part is held against that of a by a product, and divided only where it might wrap.
-pub fn below_terms(a: Key, terms: Fraction, n: u64) -> bool
-    requires { Divided a × Narrow n terms }
-    ensures { result ≡ fraction_below a.terms.num a.terms.den terms.num terms.den }
-{
-    if ROOM * n <= a.whole {
-        let divided = Key {
-            unit: a.unit,
+    // The key of these terms.
+    pub fn divided(unit: usize, terms: Fraction) -> Key
+        requires { 0 < terms.den }
+        ensures { (result.unit ≡ unit) × (result.terms ≡ terms) }
+    {
+        Key {
+            unit,
             terms,
             whole: terms.num / terms.den,
+        }
+    }
+
+    // The key of unit i.
+    pub fn of(keyed: &Keyed, i: usize) -> Key
+        requires { i < size_of keyed.now }
+        ensures { over IsKey keyed.now i result }
+    {
+        Key::divided(i, keyed.key(i))
+    }
+
+    // The key of these terms is not below this one, told without a division: no smaller a numerator over no larger a denominator, as of units of
+    // one turnover, or a key beyond. Where the answer is false it is not yet decided.
+    pub fn no_better(self, terms: Fraction, n: u64) -> bool
+        requires { Narrow n terms }
+        ensures { result ≡ true → fraction_below terms.num terms.den self.terms.num self.terms.den ≡ false }
+    {
+        if self.terms.num <= terms.num && terms.den <= self.terms.den {
+            return true;
+        }
+        beyond(terms, self.whole, n)
+    }
+
+    // This key is below key b. Keys of the same terms are equal: no remainder is divided.
+    pub fn below(self, b: Key) -> bool
+        ensures { result ≡ fraction_below self.terms.num self.terms.den b.terms.num b.terms.den }
+    {
+        if self.terms == b.terms {
+            return false;
+        }
+        draw_fraction::below_by_parts(self.terms, self.whole, b.terms, b.whole)
+    }
+
+    // This key is below the key of these terms: their whole part is held against this one's by a product, and divided only where it might wrap.
+    pub fn below_terms(self, terms: Fraction, n: u64) -> bool
+        requires { Narrow n terms }
+        ensures { result ≡ fraction_below self.terms.num self.terms.den terms.num terms.den }
+    {
+        if ROOM * n <= self.whole {
+            return self.below(Key::divided(self.unit, terms));
+        }
+        if terms.num == 0 {
+            return false;
+        }
+        let least = self.whole * terms.den;
+        if terms.num < least {
+            return false;
+        }
+        if terms.den <= terms.num - least {
+            return true;
+        }
+        let alike = Key {
+            unit: self.unit,
+            terms,
+            whole: self.whole,
         };
-        return below(a, divided);
+        self.below(alike)
     }
-    if terms.num == 0 {
-        return false;
-    }
-    let least = a.whole * terms.den;
-    if terms.num < least {
-        return false;
-    }
-    if terms.den <= terms.num - least {
-        return true;
-    }
-    let alike = Key {
-        unit: a.unit,
-        terms,
-        whole: a.whole,
-    };
-    below(a, alike)
 }

@@ -8,7 +8,7 @@ use Rattle.draw_bound.proofs.is_apart.Goals as goal
 pub returns-then-i-b : goal.returns-then-i-b
 returns-then-i-b c = λ h.
     record {
-      before = λ l. key_less_lem c.unit_key-last.ensures c.unit_key-key.ensures ∙ sym c.is_below.ensures ∙ not-true _ h;
+      before = λ l. key_less_lem c.key-last.ensures c.key-key.ensures ∙ sym c.is_below.ensures ∙ not-true _ h;
       behind = λ l. absurd (omega (arith, c.if-i-b.true));
     }
 
@@ -16,5 +16,5 @@ pub returns : goal.returns
 returns c = λ h.
     record {
       before = λ l. absurd (omega (arith, c.if-i-b.false));
-      behind = λ l. key_less_lem c.unit_key-key.ensures c.unit_key-last.ensures ∙ sym c.is_below-2.ensures ∙ not-true _ h;
+      behind = λ l. key_less_lem c.key-key.ensures c.key-last.ensures ∙ sym c.is_below-2.ensures ∙ not-true _ h;
     }

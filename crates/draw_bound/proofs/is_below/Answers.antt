@@ -1,8 +1,7 @@
 -- A key is not below itself; others are compared as fractions.
-use mathlib.Core.Path.{sym}
-use borrow.Author.Rules.{rules}
-use Rattle.draw_fraction.proofs.Order.{same_terms}
+use mathlib.Core.Path.{sym, ◌∙◌}
+use Rattle.draw_fraction.proofs.Order.{equal_fractions}
 use Rattle.draw_bound.proofs.is_below.Goals as goal
 
-pub returns-then-x-y-2 : goal.returns-then-x-y-2
-returns-then-x-y-2 c = sym (same_terms _ _ _ _ (search rules) (search rules))
+pub returns-then-eq : goal.returns-then-eq
+returns-then-eq c = sym (equal_fractions _ _ (sym c.eq.ensures ∙ c.if-eq.true))

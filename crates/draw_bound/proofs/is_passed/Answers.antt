@@ -1,4 +1,4 @@
--- The three cases of the definition: a lower part, a higher one, and the bound's own.
+-- The three cases of the definition: a lower part, the bound's own, and a higher one.
 use native.Mathlib.Omega.{arith}
 use borrow.Author.Tests.{lt-ltb, le-ltb, ne_eqb, eq-eqb}
 use Rattle.rules.specs.Tests.{◌or◌, ◌and◌}
@@ -9,10 +9,10 @@ pub returns-then-part-b : goal.returns-then-part-b
 unfolding passes ◌or◌ ◌and◌
 returns-then-part-b c = rw (lt-ltb _ _ c.if-part-b.true)
 
-pub returns-then-b-part : goal.returns-then-b-part
+pub returns-then-part-b-2 : goal.returns-then-part-b-2
 unfolding passes ◌or◌ ◌and◌
-returns-then-b-part c = rw (le-ltb c.args.part c.args.b.part (omega arith), ne_eqb c.args.part c.args.b.part (λ e. omega arith))
+returns-then-part-b-2 c = rw (le-ltb c.args.part c.args.b.part (omega arith), eq-eqb _ _ c.if-part-b-2.true)
 
-pub returns : goal.returns
+pub returns-else-part-b-2 : goal.returns-else-part-b-2
 unfolding passes ◌or◌ ◌and◌
-returns c = rw (le-ltb c.args.part c.args.b.part (omega arith), eq-eqb c.args.part c.args.b.part (omega arith))
+returns-else-part-b-2 c = rw (le-ltb c.args.part c.args.b.part (omega arith), ne_eqb _ _ c.if-part-b-2.false)

@@ -1,11 +1,9 @@
 -- After i turns the first i gaps stand.
-use Prim.Native.Nat.{◌-◌}
-use lib.ListN.{length}
-use Rattle.draw_gaps.proofs.Filling.{Filled}
+use Prim.Native.Nat.{ℕ, ◌<◌}
+use mathlib.Core.Path.{◌≡◌}
+use lib.ListN.{get_or}
+use Rattle.draw_gaps.specs.Gaps.{gap_of}
 use Rattle.draw_gaps.proofs.fill.Given as goal
 
-abbrev pub invariant-loop-i : goal.invariant-loop-i
-invariant-loop-i l = Filled l.turnovers l.marks l.off l.rest l.initial.gaps l.gaps l.i
-
-abbrev pub decreases-loop-i : goal.decreases-loop-i
-decreases-loop-i l = length l.turnovers - l.i
+abbrev pub invariant-units : goal.invariant-units
+invariant-units l = (k : ℕ) → k < l.i → get_or l.gaps k 0 ≡ gap_of l.turnovers l.marks l.off l.rest k

@@ -8,29 +8,27 @@ use Rattle.draw_bound.proofs.Terms.{near_is, reach_low}
 use Rattle.draw_list.proofs.collect.Goals.{then-is_near+else-count-ge-ROOM, else-is_near}
 use Rattle.draw_list.proofs.collect.Goals as goal
 
-pub loop-i-init : goal.loop-i-init
-loop-i-init c = record { room = refl; few = omega arith; within_frame = omega arith; holds = held_none }
+pub units-init : goal.units-init
+units-init c = (refl, omega arith, record { holds = held_none })
 
 pub is_near-requires : goal.is_near-requires
-is_near-requires c = reach_low c.unit_key-key.ensures c.reach_of-reach.ensures c.requires c.loop-i-test.true
+is_near-requires c = reach_low c.key.ensures c.reach_of-reach.ensures c.args.keyed.now.units c.units-test.true
 
-pub loop-i-preserved : goal.loop-i-preserved
-loop-i-preserved c =
-    let at = c.loop-i in
-    let test = near_is c.unit_key-key.ensures c.reach_of-reach.ensures ∙ sym c.is_near.ensures in
+pub units-preserved : goal.units-preserved
+units-preserved c =
+    let at = c.units in
+    let inv = at.invariant in
+    let test = near_is c.key.ensures c.reach_of-reach.ensures ∙ sym c.is_near.ensures in
     elim c.if-is_near.branch [
       | then-is_near+else-count-ge-ROOM w ↦
-          let room : at.count < length at.units = omega (arith, w.if-count-ge-ROOM.false, at.invariant.room) in
-          record {
-            room = ap length w.units-is ∙ simp length-set at.invariant.room;
-            few = omega (arith, w.if-count-ge-ROOM.false, w.count-is);
-            within_frame = omega (arith, c.loop-i-test.true);
-            holds = held_same w.units-is w.count-is (held_more (test ∙ w.if-is_near.true) room at.invariant.holds);
-          }
-      | else-is_near w ↦ record {
-        room = ap length w.units-is ∙ at.invariant.room;
-        few = omega (arith, w.count-is, at.invariant.few);
-        within_frame = omega (arith, c.loop-i-test.true);
-        holds = held_same w.units-is w.count-is (held_not (test ∙ w.if-is_near.false) at.invariant.holds);
-      }
+          let room : at.count < length at.units = omega (arith, w.if-count-ge-ROOM.false, inv.0) in (
+            ap length w.units-is ∙ simp length-set inv.0,
+            omega (arith, w.if-count-ge-ROOM.false, w.count-is),
+            record { holds = held_same w.units-is w.count-is (held_more (test ∙ w.if-is_near.true) room inv.2.holds) },
+          )
+      | else-is_near w ↦ (
+        ap length w.units-is ∙ inv.0,
+        omega (arith, w.count-is, inv.1),
+        record { holds = held_same w.units-is w.count-is (held_not (test ∙ w.if-is_near.false) inv.2.holds) },
+      )
     ]

@@ -1,11 +1,11 @@
 -- The units listed so far are the near ones of those looked at.
-use Prim.Native.Nat.{◌-◌}
+use Prim.Native.Nat.{◌≤◌}
+use mathlib.Core.Path.{◌≡◌}
 use lib.ListN.{length}
+use Rattle.draw_key.specs.Keyed.{over}
+use Rattle.draw_list.specs.Room.{list_room}
 use Rattle.draw_list.specs.Found.{Listed}
 use Rattle.draw_list.proofs.collect.Given as goal
 
-abbrev pub invariant-loop-i : goal.invariant-loop-i
-invariant-loop-i l = Listed l.turnovers l.randoms l.gaps l.s (record { units = l.units; count = l.count; seen = l.i })
-
-abbrev pub decreases-loop-i : goal.decreases-loop-i
-decreases-loop-i l = length l.turnovers - l.i
+abbrev pub invariant-units : goal.invariant-units
+invariant-units l = (length l.units ≡ list_room) × (l.count ≤ list_room) × over Listed l.keyed l.i l.units l.count

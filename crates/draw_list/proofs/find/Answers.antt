@@ -1,29 +1,28 @@
 -- The search finds a bound; the check makes it one.
 use native.Mathlib.Omega.{arith}
-use mathlib.Core.Path.{◌≡◌}
 use Prim.Native.Nat.{◌<◌}
-use lib.ListN.{length}
 use Rattle.draw_list.proofs.Searched.{under_scaled, listed_count, listed_placed, is_found}
 use Rattle.draw_list.proofs.find.Goals as goal
 
-pub most_numerator-most-requires : goal.most_numerator-most-requires
-most_numerator-most-requires c = (c.requires, listed_placed c.collect-list.ensures)
+pub most_numerator-scale-requires : goal.most_numerator-scale-requires
+most_numerator-scale-requires c = rw c.listed-units.ensures (listed_placed c.in_ok-list.list c.in_ok-list.ensures)
 
-pub parts_of-parts-requires : goal.parts_of-parts-requires
-parts_of-parts-requires c =
-    let l = c.collect-list.ensures in
-    let num = c.most_numerator-most.ensures in
-    record { units = (c.requires, listed_placed l); scaled = (under_scaled num.0 num.1, omega (arith, listed_count l, l.few)) }
+pub parts_of-parts-requires-clause-units : goal.parts_of-parts-requires-clause-units
+parts_of-parts-requires-clause-units c =
+    let list = c.in_ok-list.list in
+    rw c.listed-units.ensures (listed_placed list c.in_ok-list.ensures, omega (arith, listed_count list, list.few))
 
-pub is_checked-sure-requires : goal.is_checked-sure-requires
-is_checked-sure-requires c =
-    let l = c.collect-list.ensures in
-    (c.requires, listed_placed l, omega (arith, listed_count l, l.few, c.parts_of-parts.ensures.0))
+pub parts_of-parts-requires-clause-scaled : goal.parts_of-parts-requires-clause-scaled
+parts_of-parts-requires-clause-scaled c = let num = c.most_numerator-scale.ensures in under_scaled num.0 num.1
+
+pub is_checked-requires : goal.is_checked-requires
+is_checked-requires c =
+    let list = c.in_ok-list.list in
+    rw c.listed-units.ensures (listed_placed list c.in_ok-list.ensures, omega (arith, listed_count list, list.few, c.parts_of-parts.ensures.0))
 
 pub returns : goal.returns
-returns c = λ h.
-    let num = c.most_numerator-most.ensures in
-    let seen : c.collect-list.result.seen ≡ length c.args.turnovers.now = omega (arith, c.collect-list.ensures.within_frame) in
-    let some : 0 < c.args.s.n = omega arith in
-    is_found _ c.collect-list.ensures seen c.requires c.parts_of-parts.ensures.0 (under_scaled num.0 num.1) c.parts_of-parts.ensures.1
-    (c.is_checked-sure.ensures h) some _
+returns c =
+    let num = c.most_numerator-scale.ensures in
+    let some : 0 < c.args.keyed.now.setting.n = omega arith in
+    is_found _ c.in_ok-list.ensures c.args.keyed.now.units (rw (← c.listed-units.ensures) (under_scaled num.0 num.1)) (rw (← c.listed-units.ensures) c.parts_of-parts.ensures.1)
+    (rw (← c.listed-units.ensures) (c.is_checked.ensures c.if-not-is_checked.false)) some

@@ -7,8 +7,8 @@ use Rattle.rules.proofs.Lists.{filled_more}
 use Rattle.draw_bound.proofs.Terms.{part_is}
 use Rattle.draw_list.proofs.parts_of.Goals as goal
 
-pub loop-j-preserved : goal.loop-j-preserved
-loop-j-preserved c =
-    let room : c.loop-j.j < length c.loop-j.parts = omega (arith, c.loop-j-test.true, c.requires.scaled, c.loop-j.invariant.1) in
-    let part = sym (part_is c.unit_key-key.ensures c.args.scale) in
-    (omega arith, simp length-set c.loop-j.invariant.1, filled_more _ c.loop-j.parts c.loop-j.j _ room part c.loop-j.invariant.2)
+pub units-preserved : goal.units-preserved
+units-preserved c =
+    let inv = c.units.invariant in
+    let room : c.units.j < length c.units.parts = omega (arith, c.units-test.true, c.requires.units.1, inv.0) in
+    (simp length-set inv.0, filled_more _ c.units.parts c.units.j _ room (sym (part_is c.key-key.ensures c.args.scale)) inv.1)

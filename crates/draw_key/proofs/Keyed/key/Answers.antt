@@ -1,4 +1,4 @@
--- `unit_key` meets its contract: the shift and the products of `key_over`, with the gap that is given.
+-- `Keyed::key` meets its contract: the shift and the products of `key_over`, with the gap that is given.
 use mathlib.Core.Path.{◌≡◌, ap, ◌∙◌}
 use mathlib.Core.List.{List}
 use Prim.Native.Nat.{ℕ, ◌*◌, ◌<◌}
@@ -11,7 +11,7 @@ use Rattle.draw_key.specs.declared.Setting.{Setting}
 use Rattle.draw_key.specs.Methods.{denominator_by}
 use Rattle.draw_key.specs.Units.{num_of, den_of, Units, UnitKey}
 use Rattle.draw_key.proofs.Keys.{shifted_low, by_positive}
-use Rattle.draw_key.proofs.unit_key.Goals as goal
+use Rattle.draw_key.proofs.Keyed.key.Goals as goal
 
 -- what is asked of unit i
 module _ {ts rs gs : List ℕ} {s : Setting} (ok : Units ts rs gs s) (i : ℕ) (l : i < length ts) where
@@ -33,10 +33,10 @@ module _ {ts rs gs : List ℕ} {s : Setting} (ok : Units ts rs gs s) (i : ℕ) (
 
 pub key_over-requires : goal.key_over-requires
 key_over-requires c = (
-  c.requires.0.within c.args.i c.requires.1,
-  rw c.shift-shifted.ensures (low c.requires.0 c.args.i c.requires.1),
-  c.requires.0.gap_low c.args.i c.requires.1,
+  c.args.self.now.units.within c.args.i c.requires,
+  rw c.shift-shifted.ensures (low c.args.self.now.units c.args.i c.requires),
+  c.args.self.now.units.gap_low c.args.i c.requires,
 )
 
 pub returns : goal.returns
-returns c = key c.requires.0 c.args.i c.requires.1 c.key_over.result _ c.shift-shifted.ensures c.key_over.ensures
+returns c = key c.args.self.now.units c.args.i c.requires c.key_over.result _ c.shift-shifted.ensures c.key_over.ensures

@@ -1,0 +1,7 @@
+-- A key is not below itself; other keys are compared by their parts.
+use mathlib.Core.Path.{sym, ◌∙◌}
+use Rattle.draw_fraction.proofs.Order.{equal_fractions}
+use Rattle.draw_terms.proofs.Key.below.Goals as goal
+
+pub returns-then-eq : goal.returns-then-eq
+returns-then-eq c = sym (equal_fractions _ _ (sym c.eq.ensures ∙ c.if-eq.true))
