@@ -1,21 +1,21 @@
--- `count_leavers` meets its contract: those of the first j members that are not sampled are counted.
+-- `Search::leaving` meets its contract: those of the first j members that are not sampled are counted.
 use mathlib.Core.Path.{◌≡◌, sym, ap, ◌∙◌}
 use mathlib.Core.Bool.{not}
 use native.Mathlib.Omega.{arith}
 use lib.ListN.{length}
 use Rattle.selection.proofs.Sums.{count_zero, count_yes, count_not}
 use Rattle.rotation_step.specs.Leaving.{member_leaves, leaving}
-use Rattle.rotation_step.proofs.count_leavers.Goals.{then-not-is_sampled, else-not-is_sampled}
-use Rattle.rotation_step.proofs.count_leavers.Goals as goal
+use Rattle.rotation_step.proofs.Search.leaving.Goals.{then-not-is_sampled, else-not-is_sampled}
+use Rattle.rotation_step.proofs.Search.leaving.Goals as goal
 
 pub tell-told-requires : goal.tell-told-requires
-tell-told-requires c = (c.requires.units, c.requires.sized)
+tell-told-requires c = c.args.self.now.searched.sized
 
 pub loop-i-init : goal.loop-i-init
 loop-i-init c = (omega arith, sym (count_zero _))
 
 pub is_sampled-requires : goal.is_sampled-requires
-is_sampled-requires c = (c.requires.units, c.tell-told.ensures, c.requires.low c.loop-i.i-index c.loop-i-test.true)
+is_sampled-requires c = (c.tell-told.ensures, c.args.self.now.searched.low c.loop-i.i-index c.loop-i-test.true)
 
 pub loop-i-preserved : goal.loop-i-preserved
 unfolding member_leaves
@@ -36,5 +36,5 @@ loop-i-preserved c =
 pub returns : goal.returns
 unfolding leaving
 returns c =
-    let all : c.loop-i.i-index ≡ length c.args.members.now = omega arith in
+    let all : c.loop-i.i-index ≡ length c.args.self.now.members.now = omega arith in
     rw (← all) c.loop-i.invariant.1

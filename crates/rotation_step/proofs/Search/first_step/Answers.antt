@@ -1,34 +1,28 @@
--- `first_step` meets its contract: no step before k was enough, so the smallest is the smallest from k on.
+-- `Search::first_step` meets its contract: no step before k was enough, so the smallest is the smallest from k on.
 use mathlib.Core.Path.{◌≡◌, refl, sym, ◌∙◌}
 use Prim.Native.Nat.{◌<◌}
 use native.Mathlib.Omega.{arith}
 use Rattle.rules.specs.Limits.{steps}
 use Rattle.selection.proofs.Least.{least_hit, least_miss, least_end}
 use Rattle.rotation_step.specs.Leaving.{first_step}
-use Rattle.rotation_step.proofs.Starts.{moved, enough, too_few}
-use Rattle.rotation_step.proofs.first_step.Goals as goal
+use Rattle.rotation_step.proofs.Starts.{enough, too_few}
+use Rattle.rotation_step.proofs.Search.first_step.Goals as goal
 
 pub loop-k-init : goal.loop-k-init
 unfolding first_step
 loop-k-init c = refl
 
-pub setting_at-at-requires : goal.setting_at-at-requires
-setting_at-at-requires c = (c.requires.units.start_low_lem, omega arith)
-
-pub count_leavers-requires : goal.count_leavers-requires
-count_leavers-requires c = moved _ _ _ _ _ _ c.requires _ _ c.setting_at-at.ensures
-
-pub returns-then-need-count_leavers-clause-value : goal.returns-then-need-count_leavers-clause-value
-returns-then-need-count_leavers-clause-value c =
+pub returns-then-need-leaving-clause-value : goal.returns-then-need-leaving-clause-value
+returns-then-need-leaving-clause-value c =
     let l = c.loop-k in
-    let hit = enough _ _ _ _ _ _ _ l.k c.setting_at-at.ensures _ c.count_leavers.ensures c.if-need-count_leavers.true in
+    let hit = enough _ l.k _ c.at.ensures _ _ c.leaving.ensures c.if-need-leaving.true in
     let below : l.k < steps = omega (arith, c.loop-k-test.true) in
     sym (l.invariant ∙ least_hit _ steps l.k below hit)
 
 pub loop-k-preserved : goal.loop-k-preserved
 loop-k-preserved c =
     let l = c.loop-k in
-    let miss = too_few _ _ _ _ _ _ _ l.k c.setting_at-at.ensures _ c.count_leavers.ensures c.if-need-count_leavers.false in
+    let miss = too_few _ l.k _ c.at.ensures _ _ c.leaving.ensures c.if-need-leaving.false in
     let below : l.k < steps = omega (arith, c.loop-k-test.true) in
     l.invariant ∙ least_miss _ steps l.k below miss
 
