@@ -10,40 +10,42 @@ use Rattle.rules.specs.Limits.{random_range}
 use Rattle.rules.specs.Rotation.{start_at}
 use Rattle.draw_key.specs.declared.Setting.{Setting}
 use Rattle.rotation_step.specs.Leaving.{setting_at, leaving, enough_leave}
-use Rattle.rotation_step.specs.Search.{Searched}
+use Rattle.draw_key.specs.Units.{Units}
+use Rattle.rotation_step.specs.declared.Search.{Search}
+use Rattle.rotation_step.specs.Moved.{of, Moved}
 
 -- a start that a step leads to is one
 start_low_lem : (old k : ℕ) → start_at old k < random_range
 unfolding start_at
 start_low_lem old k = mod-lt _ (lit< tt)
 
-module _ (ts rs gs members : List ℕ) (s : Setting) (z : ℕ) (asked : Searched ts rs gs members s z) where
-  -- what is asked under one start is given under each
-  pub moved : (k : ℕ) (at : Setting) → at ≡ setting_at s k → Searched ts rs gs members at z
-  moved k at e =
-      let u = asked.units in
+-- what is asked of units under one start is given under each
+module _ (s : Setting) (k : ℕ) (at : Setting) (e : at ≡ setting_at s k) where
+  pub units_moved : (ts rs gs : List ℕ) → Units ts rs gs s → Units ts rs gs at
+  units_moved ts rs gs u =
       rw e (record {
-        units = record {
-          same = u.same;
-          room = u.room;
-          positive = u.positive;
-          within = u.within;
-          random_low_lem = u.random_low_lem;
-          start_low_lem = start_low_lem s.start k;
-          gap_low = u.gap_low;
-          size_low = u.size_low;
-          product_low = u.product_low;
-          enough = u.enough;
-        };
-        sized = asked.sized;
-        low = asked.low;
+        same = u.same;
+        room = u.room;
+        positive = u.positive;
+        within = u.within;
+        random_low_lem = u.random_low_lem;
+        start_low_lem = start_low_lem s.start k;
+        gap_low = u.gap_low;
+        size_low = u.size_low;
+        product_low = u.product_low;
+        enough = u.enough;
       })
 
-module _ (ts rs gs members : List ℕ) (s at : Setting) (need k : ℕ) (e : at ≡ setting_at s k) (r : ℕ) (l : r ≡ leaving ts rs gs members at) where
-  pub enough : need ≤ r → enough_leave ts rs gs members s need k ≡ true
-  unfolding enough_leave
-  enough h = rw (← e, ← l) (le-leb need r h)
+-- what the search that a step leads to says of the step
+module _ (q : Search) (k : ℕ) (r : Search) (m : Moved q k r) where
+  pub leaving_moved : of leaving r ≡ leaving q.keyed.turnovers.now q.keyed.randoms.now q.keyed.gaps.now q.members.now (setting_at q.keyed.setting k)
+  leaving_moved = rw (m.turnovers_are, m.randoms_are, m.gaps_are, m.members_are, m.setting_is)
 
-  pub too_few : r < need → enough_leave ts rs gs members s need k ≡ false
-  unfolding enough_leave
-  too_few h = rw (← e, ← l) (lt-leb need r h)
+  module _ (need count : ℕ) (l : count ≡ of leaving r) where
+    pub enough : need ≤ count → of enough_leave q need k ≡ true
+    unfolding enough_leave
+    enough h = rw (← leaving_moved, ← l) (le-leb need count h)
+
+    pub too_few : count < need → of enough_leave q need k ≡ false
+    unfolding enough_leave
+    too_few h = rw (← leaving_moved, ← l) (lt-leb need count h)

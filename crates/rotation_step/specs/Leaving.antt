@@ -1,6 +1,6 @@
 -- Document 01, "Rotation", asked of the members alone: `leaves` and `suffices` of `rules` look at each unit of the frame, a
 -- step looks at the list of the members' places; proofs/Members of `rotation` shows that both say the same.
-use Rattle.std.specs.Prelude.{Bool, not, List, ℕ, length, get_or, leb}
+use Rattle.std.specs.Prelude.{Bool, not, List, Option, Some, None, ℕ, length, get_or, leb}
 use Rattle.rules.specs.Limits.{steps}
 use Rattle.rules.specs.Selection.{count, least_from}
 use Rattle.rules.specs.Rotation.{start_at}
@@ -29,3 +29,8 @@ enough_leave ts rs gs members s need k = leb need (leaving ts rs gs members (set
 -- the smallest such step, or 1,000
 unfoldable pub first_step : List ℕ → List ℕ → List ℕ → List ℕ → Setting → ℕ → ℕ
 first_step ts rs gs members s need = least_from (enough_leave ts rs gs members s need) steps 0
+
+-- the step that is found, or 1,000 where none is
+abbrev pub step_or_last : Option ℕ → ℕ
+step_or_last (Some k) = k
+step_or_last None = steps

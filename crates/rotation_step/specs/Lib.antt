@@ -1,2 +1,3 @@
 pub mod Leaving
-pub mod Search
+pub mod Searched
+pub mod Moved

@@ -4,74 +4,80 @@
 #![tactic(auto)]
 
 ghost use Rattle.std.specs.Prelude.{◌≡◌, ◌<◌, ◌≤◌};
+ghost use Rattle.std.specs.Option.{IfSome};
 ghost use Rattle.rules.specs.Limits.{random_range, steps};
-ghost use Rattle.rotation_step.specs.Leaving.{setting_at, leaving, first_step};
-ghost use Rattle.rotation_step.specs.Search.{Searched};
+ghost use Rattle.rotation_step.specs.Leaving.{setting_at, leaving, first_step, step_or_last};
+ghost use Rattle.rotation_step.specs.Searched.{Searched};
 
-use draw_key::Setting;
+use draw_key::{Keyed, Setting};
 use draw_panel::told;
 use limits::{RANDOM_RANGE, STEP_LENGTH, STEPS};
+
+// What a step looks at: the units with their keys, the places of the members among them, and z, the number of the take-all units and of those to sample.
+#[derive(Clone, Copy)]
+pub struct Search<'a> {
+    pub keyed: Keyed<'a>,
+    pub members: &'a [usize],
+    pub z: usize,
+    pub ghost searched: { Searched keyed.turnovers.now keyed.gaps.now members.now keyed.setting z },
+}
 
 // The setting with the start "(old + 1,000 × k) mod 1,000,000".
 pub fn setting_at(s: Setting, k: u32) -> Setting
     requires { (s.start < random_range) × (k ≤ steps) }
     ensures { result ≡ setting_at s k }
 {
-    let old = s.start;
-    let method = s.method;
     Setting {
-        method,
-        start: (old + STEP_LENGTH * k) % RANDOM_RANGE,
-        n: s.n,
-        rest: s.rest,
+        start: (s.start + STEP_LENGTH * k) % RANDOM_RANGE,
+        ..s
     }
 }
 
-// How many members are not sampled; z is the number of the take-all units and of those to sample.
-fn count_leavers(
-    turnovers: &[u64],
-    randoms: &[u32],
-    gaps: &[u64],
-    members: &[usize],
-    s: Setting,
-    z: usize,
-) -> usize
-    requires { Searched turnovers.now randoms.now gaps.now members.now s z }
-    ensures { result ≡ leaving turnovers.now randoms.now gaps.now members.now s }
-{
-    let told = told::tell(turnovers, randoms, gaps, s, z);
-    let mut count: usize = 0;
-    let mut j: usize = 0;
-    while j < members.len() {
-        if !told::is_sampled(turnovers, randoms, gaps, s, told, members[j]) {
-            count += 1;
-        }
-        j += 1;
-    }
-    count
-}
+impl<'a> Search<'a> {
+    ghost use Rattle.rotation_step.specs.Moved.{of, Moved};
 
-// The smallest step from the setting's start at which at least `need` members are not sampled, or 1,000.
-pub fn first_step(
-    turnovers: &[u64],
-    randoms: &[u32],
-    gaps: &[u64],
-    members: &[usize],
-    s: Setting,
-    z: usize,
-    need: usize,
-) -> u32
-    requires { Searched turnovers.now randoms.now gaps.now members.now s z }
-    ensures { result ≡ first_step turnovers.now randoms.now gaps.now members.now s need }
-{
-    let mut k: u32 = 0;
-    while k < STEPS {
-        let at = setting_at(s, k);
-        let leaving = count_leavers(turnovers, randoms, gaps, members, at, z);
-        if need <= leaving {
-            return k;
+    // The same under the start that step k leads to.
+    pub fn at(&self, k: u32) -> Search<'a>
+        requires { k ≤ steps }
+        ensures { Moved self.now k result }
+    {
+        let keyed = Keyed {
+            turnovers: self.keyed.turnovers,
+            randoms: self.keyed.randoms,
+            gaps: self.keyed.gaps,
+            setting: setting_at(self.keyed.setting, k),
+        };
+        Search {
+            keyed,
+            members: self.members,
+            z: self.z,
         }
-        k += 1;
     }
-    STEPS
+
+    // How many members are not sampled.
+    fn leaving(&self) -> usize
+        ensures { result ≡ of leaving self.now }
+    {
+        let told = told::tell(&self.keyed, self.z);
+        let mut count: usize = 0;
+        for i in self.members {
+            if !told.is_sampled(&self.keyed, *i) {
+                count += 1;
+            }
+        }
+        count
+    }
+
+    // The smallest step at which at least `need` members are not sampled.
+    pub fn first_step(&self, need: usize) -> Option<u32>
+        ensures value { step_or_last result ≡ of first_step self.now need }
+        ensures below { IfSome result (λ k. k < steps) }
+    {
+        for k in 0..STEPS {
+            if need <= self.at(k).leaving() {
+                return Some(k);
+            }
+        }
+        None
+    }
 }

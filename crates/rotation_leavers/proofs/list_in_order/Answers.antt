@@ -4,7 +4,7 @@ use Rattle.rotation_leavers.proofs.Leavers.{listed_room, front_length, orderable
 use Rattle.rotation_leavers.proofs.list_in_order.Goals as goal
 
 pub list-count-requires : goal.list-count-requires
-list-count-requires c = (c.requires.searched, c.requires.members_in_bounds.0)
+list-count-requires c = c.requires.0
 
 pub slice_bounds-order-end : goal.slice_bounds-order-end
 slice_bounds-order-end c = listed_room _ _ _ _ _ _ _ _ c.list-count.ensures
@@ -13,7 +13,7 @@ pub slice_bounds-order-end-2 : goal.slice_bounds-order-end-2
 slice_bounds-order-end-2 c = sym (front_length _ _ _ _ _ _ _ _ c.list-count.ensures)
 
 pub order-requires : goal.order-requires
-order-requires c = orderable _ _ _ _ _ _ _ _ c.list-count.ensures _ c.requires.searched.low c.requires.members_in_bounds.1
+order-requires c = orderable _ _ _ _ _ _ _ _ c.list-count.ensures _ c.args.search.now.searched.low c.requires.1
 
 pub returns : goal.returns
 returns c = put_in_order _ _ _ _ _ _ _ _ c.list-count.ensures _ c.order.auto.units c.order.ensures

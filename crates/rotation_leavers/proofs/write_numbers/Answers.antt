@@ -27,7 +27,7 @@ module _ (numbers units before now : List ℕ) (j : ℕ) (e : now ≡ written_to
       e ∙ ap (λ (k : ℕ). written_to k (numbers_of numbers units) before) n ∙ written_to_all (numbers_of numbers units) before
 
 pub loop-j-init : goal.loop-j-init
-loop-j-init c = (omega arith, refl)
+loop-j-init c = refl
 
 pub offset_bounds-numbers-i : goal.offset_bounds-numbers-i
 offset_bounds-numbers-i c = omega (arith, c.requires.0.at c.loop-j.j c.loop-j-test.true, c.well_formed)
@@ -37,10 +37,13 @@ bounds-numbers-i c = c.requires.0.at c.loop-j.j c.loop-j-test.true
 
 pub bounds-out-j : goal.bounds-out-j
 bounds-out-j c =
-    omega (arith, kept_length _ _ _ _ _ c.loop-j.invariant.1 c.requires.1 c.loop-j.invariant.0, c.requires.1)
+    let low : c.loop-j.j ≤ length c.args.units.now = omega arith in
+    omega (arith, kept_length _ _ _ _ _ c.loop-j.invariant c.requires.1 low, c.requires.1)
 
 pub loop-j-preserved : goal.loop-j-preserved
-loop-j-preserved c = (omega arith, next_number _ _ _ _ _ c.loop-j.invariant.1 c.requires.1 c.loop-j-test.true)
+loop-j-preserved c = next_number _ _ _ _ _ c.loop-j.invariant c.requires.1 c.loop-j-test.true
 
 pub returns : goal.returns
-returns c = all_written _ _ _ _ _ c.loop-j.invariant.1 c.requires.1 c.loop-j.invariant.0 c.loop-j-test.false
+returns c =
+    let low : c.loop-j.j ≤ length c.args.units.now = omega arith in
+    all_written _ _ _ _ _ c.loop-j.invariant c.requires.1 low c.loop-j-test.false
