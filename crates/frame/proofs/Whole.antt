@@ -1,12 +1,14 @@
--- What a chain over a whole list says, in the words of `rules`: whether a test holds somewhere, the largest number, and a total that stops at a number.
+-- What a chain over a whole list says, in the words of `rules`: whether a test holds somewhere, the largest number, and the sum.
 use mathlib.Core.Path.{◌≡◌, refl, sym, ◌∙◌}
 use mathlib.Core.Bool.{Bool}
 use mathlib.Core.List.{List, [], ◌∷◌}
-use Prim.Native.Nat.{ℕ, ◌+◌, ◌<◌, ◌≤◌, min, max}
+use Prim.Native.Nat.{ℕ, suc, ◌*◌, ◌<◌, ◌≤◌, max}
 use native.Mathlib.Omega.{arith}
-use lib.Dec.{leb, ltb}
-use borrow.Author.Tests.{le-leb, lt-leb, leb-true, leb-false, ltb-true, ltb-false, lt-ltb, le-ltb}
-use Rattle.std.specs.List.{list_any, fold}
+use lib.Dec.{leb}
+use lib.ListN.{length, get_or}
+use borrow.Author.Tests.{le-leb, lt-leb, leb-true, leb-false}
+use Rattle.std.specs.List.{list_any, sum as std_sum}
+use Rattle.std.proofs.lemmas.List.Recursion.{is_sum_by}
 use Rattle.rules.specs.Tests.{◌or◌}
 use Rattle.rules.specs.Lists.{sum, any_of}
 use Rattle.rules.proofs.Tests.{by_test}
@@ -35,19 +37,13 @@ largest_at limit (x ∷ xs) h =
     (λ k. let m = leb-false limit (largest xs) k in lt-leb limit (max x (largest xs)) (omega arith) ∙ sym k)
     ∙ largest_at limit xs h))
 
--- a total that stops at `top`
-abbrev pub stopping : ℕ → ℕ → ℕ → ℕ
-stopping top total x = min (total + x) top
-
-pub stopped : (top n : ℕ) (l : List ℕ) → n ≤ top → fold (stopping top) n l ≡ min (n + sum l) top
+-- the sum
+pub sum_is : (l : List ℕ) → sum l ≡ std_sum l
 unfolding sum
-stopped top n [] h = omega arith
-stopped top n (x ∷ xs) h = let next = stopped top (stopping top n x) xs (omega arith) in omega (arith, next)
+sum_is = is_sum_by sum (λ x. x) refl (λ _ _. refl)
 
--- and asks what the sum would
-pub over_stopped : (limit top : ℕ) (l : List ℕ) → limit < top → ltb limit (fold (stopping top) 0 l) ≡ ltb limit (sum l)
-over_stopped limit top l h =
-    let total = stopped top 0 l (omega arith) in
-    by_test (ltb limit (sum l))
-    (λ e. let s = ltb-true limit (sum l) e in lt-ltb limit (fold (stopping top) 0 l) (omega arith) ∙ sym e)
-    (λ e. let s = ltb-false limit (sum l) e in le-ltb limit (fold (stopping top) 0 l) (omega arith) ∙ sym e)
+-- numbers within a limit
+pub sum_within : (most : ℕ) (l : List ℕ) → ((i : ℕ) → get_or l i 0 ≤ most) → sum l ≤ length l * most
+unfolding sum
+sum_within most [] h = omega arith
+sum_within most (x ∷ xs) h = omega (arith, h 0, sum_within most xs (λ i. h (suc i)))

@@ -53,17 +53,15 @@ pub fn rising(numbers: &[u32]) -> bool
     rises
 }
 
-// "a turnover 0, or total over 10^12". The total stays at the largest number rather than wrap.
+// "a turnover 0, or total over 10^12". The total is wide enough for any list.
 pub fn bad_turnovers(turnovers: &[u64]) -> bool
     ensures { result ≡ bad_turnovers turnovers.now }
 {
     if turnovers.contains(&0) {
         return true;
     }
-    let total = turnovers
-        .iter()
-        .fold(0u64, |total, turnover| total.saturating_add(*turnover));
-    MOST_TURNOVER < total
+    let total: u128 = turnovers.iter().map(|turnover| u128::from(*turnover)).sum();
+    u128::from(MOST_TURNOVER) < total
 }
 
 // "random number … over 999,999": asked of the largest, since a pass that may stop in the middle takes longer

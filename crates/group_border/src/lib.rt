@@ -11,10 +11,10 @@ ghost use Rattle.group_border.specs.Searched.{eligible_in, GatheredFrom, Candida
 mod border;
 
 pub use border::Border;
-use limits::THRESHOLD_SCALE;
+use limits::{MOST_PANEL, THRESHOLD_SCALE};
 
 // Units of two previous lists.
-pub const TWO_LISTS: usize = 200;
+pub const TWO_LISTS: usize = 2 * MOST_PANEL;
 
 impl Border<'_> {
     // "1,000 × n × turnover ≥ γ × X"
@@ -68,7 +68,8 @@ impl Border<'_> {
         self.gather(self.keeping.first, self.keeping.second, few, places)
     }
 
-    // The candidates in the first places, the largest first, equal turnovers by lower number; gives their number.
+    // The candidates in the first places, the largest first, equal turnovers by lower number; gives their number. The caller lends
+    // the places, since there is no heap.
     pub fn candidates(&self, places: &mut [usize]) -> usize
         requires { most_panel + most_panel ≤ length places.old }
         ensures { CandidatesOf self.now places.new result }

@@ -56,7 +56,7 @@ fn least_reaching(n: u64, rest: u64) -> u64
     requires { (0 < n) × (n ≤ most_panel) × (rest ≤ most_turnover) }
     ensures { (t : ℕ) → leb rest (n * t) ≡ leb result t }
 {
-    (rest + (n - 1)) / n
+    rest.div_ceil(n)
 }
 
 // q, n and X of turnovers that refusals 3 and 5 leave.
@@ -68,6 +68,7 @@ pub fn find_size(turnovers: &[u64], z: usize) -> Size
     let mut q: usize = 0;
     let mut rest = total;
     let mut least = total + 1;
+    // q grows by all who reach X at once, so that no range counts it
     while q < z {
         let n = z - q;
         let at = least_reaching(n as u64, rest);
