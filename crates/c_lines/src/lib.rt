@@ -7,7 +7,7 @@ ghost use Rattle.frame_lines.specs.Value.{imported_from, units_after};
 ghost use Rattle.rules.specs.Register.{imported, room_of, imported_numbers, imported_turnovers, imported_randoms};
 ghost use Rattle.c_lines.specs.Answer.{register_from};
 
-use frame_lines::{Imported, Unit};
+use frame_lines::{ImportError, Unit};
 use refusals::Refusal;
 
 // The count where nothing refuses; the offset of the first bad line where 34 does.
@@ -20,22 +20,22 @@ pub struct Register {
 }
 
 // The answer in C's terms.
-fn answered(answer: Imported) -> Register
+fn answered(answer: Result<usize, ImportError>) -> Register
     ensures { result ≡ register_from (imported_from answer) }
 {
     match answer {
-        Imported::Units(n) => Register {
+        Ok(n) => Register {
             refusal: 0,
             count: n as u64,
             offset: 0,
         },
-        Imported::BadLine(at) => Register {
-            refusal: Refusal::RegisterLine.number() as u32,
+        Err(ImportError::BadLine(at)) => Register {
+            refusal: u32::from(Refusal::RegisterLine.number()),
             count: 0,
             offset: at as u64,
         },
-        Imported::TooMany => Register {
-            refusal: Refusal::RegisterRoom.number() as u32,
+        Err(ImportError::TooMany) => Register {
+            refusal: u32::from(Refusal::RegisterRoom.number()),
             count: 0,
             offset: 0,
         },
@@ -64,6 +64,5 @@ pub extern "C" fn vougecress_import_units(text: &[u8], list: &mut [Unit]) -> Reg
     ensures { (result ≡ register_from (imported text.now (length list.old)))
         × (list.new ≡ units_after text.now list.old) }
 {
-    let answer = frame_lines::import_units(text, list);
-    answered(answer)
+    answered(frame_lines::import_units(text, list))
 }

@@ -5,8 +5,6 @@ ghost use Rattle.std.specs.Prelude.{◌≡◌};
 ghost use Rattle.rules.specs.Sheet.{sheet_answer, sheet_bytes};
 ghost use Rattle.c_sheet.specs.Laid.{laid_from};
 
-use text_sheet::Answer;
-
 #[repr(C)]
 #[derive(Drop)]
 pub struct Laid {
@@ -22,13 +20,13 @@ pub extern "C" fn vougecress_sheet(name: &[u8], new: u64, old: u64, out: &mut [u
     ensures out_after { out.new ≡ sheet_bytes name.now new old out.old }
 {
     match text_sheet::line(name, new, old, out) {
-        Answer::Laid { hundredths, rest } => Laid {
+        Ok(change) => Laid {
             refusal: 0,
-            change: hundredths,
-            rest: rest,
+            change: change.hundredths,
+            rest: change.rest,
         },
-        Answer::Refused(why) => Laid {
-            refusal: why.number() as u32,
+        Err(why) => Laid {
+            refusal: u32::from(why.number()),
             change: 0,
             rest: 0,
         },

@@ -1,7 +1,7 @@
 -- The lines of a text place by place, and the list of units after one store a line.
 use mathlib.Core.Path.{◌≡◌, refl, sym, ap, ap₂, ◌∙◌}
 use mathlib.Core.List.{List, [], ◌∷◌, ◌++◌, append_assoc}
-use Prim.Native.Nat.{ℕ, zero, suc, ◌+◌, ◌-◌, ◌<◌, ◌≤◌}
+use Prim.Native.Nat.{ℕ, zero, suc, ◌+◌, ◌-◌, ◌<◌, ◌≤◌, min}
 use native.Mathlib.Nat.{not-suc-le-zero, le_of_suc-le-suc}
 use native.Mathlib.Omega.{arith}
 use lib.ListN.{length, get_or, take, drop, set, length-set, take-append-drop}
@@ -51,18 +51,18 @@ module _ (field : Row → ℕ) where
   column_filled t places before = filled_by (imported t places) t before
 
 -- ---- the room of three lists
-shorter_le : (a b : ℕ) → (shorter a b ≤ a) × (shorter a b ≤ b)
+pub shorter_is : (a b : ℕ) → min a b ≡ shorter a b
 unfolding shorter
-shorter_le a b =
-    by_test (ltb b a) (λ e. rw e (let h = ltb-true b a e in (omega arith, omega arith)))
-    (λ e. rw e (let h = ltb-false b a e in (omega arith, omega arith)))
+shorter_is a b =
+    by_test (ltb b a) (λ e. rw e (let h = ltb-true b a e in omega arith))
+    (λ e. rw e (let h = ltb-false b a e in omega arith))
 
 pub room_le : (ns ts rs : List ℕ) → (room_of ns ts rs ≤ length ns) × (room_of ns ts rs ≤ length ts) × (room_of ns ts rs ≤ length rs)
 unfolding room_of
 room_le ns ts rs =
-    let first = shorter_le (length ns) (length ts) in
-    let both = shorter_le (shorter (length ns) (length ts)) (length rs) in
-    (omega arith, omega arith, both.1)
+    let two = shorter_is (length ns) (length ts) in
+    let three = shorter_is (shorter (length ns) (length ts)) (length rs) in
+    (omega arith, omega arith, omega arith)
 
 -- ---- units
 -- so many units from the line at an offset are stored from the place i on

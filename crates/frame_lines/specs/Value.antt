@@ -1,25 +1,23 @@
 -- Document 02, [14]: what the code's values are in the definitions of `rules`, and a lent list of units after the call.
-use Rattle.std.specs.Prelude.{ℕ, zero, suc, List, [], ◌∷◌, ◌++◌, length, drop}
+use Rattle.std.specs.Prelude.{ℕ, zero, suc, Option, Some, None, Result, Ok, Err, List, [], ◌∷◌, ◌++◌, length, drop}
 use Rattle.rules.specs.Refusals.{stays}
 use Rattle.rules.specs.Register.{Row as RulesRow, Line as RulesLine, Imported as Answer, row_at, imported, import_number, import_count}
 use Rattle.frame_lines.specs.declared.Unit.{Unit}
 use Rattle.frame_lines.specs.declared.Row.{Row}
-use Rattle.frame_lines.specs.declared.Line.{Line}
-use Rattle.frame_lines.specs.declared.Line.TheVariants.{Bad, Good}
-use Rattle.frame_lines.specs.declared.Imported.{Imported}
-use Rattle.frame_lines.specs.declared.Imported.TheVariants.{Units, BadLine, TooMany}
+use Rattle.frame_lines.specs.declared.ImportError.{ImportError}
+use Rattle.frame_lines.specs.declared.ImportError.TheVariants.{BadLine, TooMany}
 
 abbrev pub row_from : Row → RulesRow
 row_from r = record { number = r.unit.number; turnover = r.unit.turnover; random = r.unit.random; next = r.next }
 
-abbrev pub line_from : Line → RulesLine
-line_from Bad = RulesLine.bad
-line_from (Good r) = RulesLine.good (row_from r)
+abbrev pub line_from : Option Row → RulesLine
+line_from None = RulesLine.bad
+line_from (Some r) = RulesLine.good (row_from r)
 
-abbrev pub imported_from : Imported → Answer
-imported_from (Units n) = Answer.units n
-imported_from (BadLine at) = Answer.bad_line at
-imported_from TooMany = Answer.too_many
+abbrev pub imported_from : Result ℕ ImportError → Answer
+imported_from (Ok n) = Answer.units n
+imported_from (Err (BadLine at)) = Answer.bad_line at
+imported_from (Err TooMany) = Answer.too_many
 
 -- the unit record of a line
 abbrev pub unit_of : RulesRow → Unit

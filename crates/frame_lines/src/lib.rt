@@ -4,15 +4,15 @@
 
 ghost use Rattle.std.specs.Prelude.{◌≡◌, ◌≤◌, length};
 ghost use Rattle.rules.specs.Refusals.{written};
-ghost use Rattle.rules.specs.Register.{Row as RulesRow, line_at, row_at, imported, import_count, column_of, shorter, room_of, imported_numbers, imported_turnovers, imported_randoms};
+ghost use Rattle.rules.specs.Register.{Row as RulesRow, line_at, row_at, imported, import_count, column_of, room_of, imported_numbers, imported_turnovers, imported_randoms};
 ghost use Rattle.frame_lines.specs.Value.{line_from, row_from, imported_from, units_after};
 
 use limits::{MOST_LONG, MOST_SHORT};
-use text_field::Part;
+use text_field::{field_and_comma, field_and_end};
 
 // C shares this layout.
 #[repr(C)]
-#[derive(Drop)]
+#[derive(Clone, Copy)]
 pub struct Unit {
     pub number: u32,
     pub turnover: u64,
@@ -20,115 +20,84 @@ pub struct Unit {
 }
 
 // The unit of a line, and the offset of the next line.
-#[derive(Drop)]
+#[derive(Clone, Copy)]
 pub struct Row {
     pub unit: Unit,
     pub next: usize,
 }
 
-#[derive(Drop)]
-pub enum Line {
-    Bad,
-    Good(Row),
-}
-
-// The count of units; 34 with the offset of the first bad line; 35.
-#[derive(Clone, Copy)]
-pub enum Imported {
-    Units(usize),
+// 34 with the offset of the first bad line; 35.
+#[derive(Clone, Copy, Debug, PartialEq, Eq)]
+pub enum ImportError {
     BadLine(usize),
     TooMany,
 }
 
-// The line that begins at an offset.
-pub fn read_line(t: &[u8], at: usize) -> Line
+// The line that begins at an offset, if it is of the form.
+pub fn read_line(t: &[u8], at: usize) -> Option<Row>
     ensures { line_from result ≡ line_at t.now at }
 {
-    let Part::Found(number, i) = text_field::field_and_comma(t, at, MOST_SHORT) else {
-        return Line::Bad;
-    };
-    let Part::Found(turnover, j) = text_field::field_and_comma(t, i, MOST_LONG) else {
-        return Line::Bad;
-    };
-    let Part::Found(random, n) = text_field::field_and_end(t, j, MOST_SHORT) else {
-        return Line::Bad;
-    };
+    let (number, i) = field_and_comma(t, at, MOST_SHORT)?;
+    let (turnover, j) = field_and_comma(t, i, MOST_LONG)?;
+    let (random, next) = field_and_end(t, j, MOST_SHORT)?;
     let unit = Unit {
         number: number as u32,
-        turnover: turnover,
+        turnover,
         random: random as u32,
     };
-    Line::Good(Row {
-        unit: unit,
-        next: n,
-    })
+    Some(Row { unit, next })
 }
 
-// The line that begins at an offset, where it is of the form.
+// The line that begins at an offset; where it is not of the form, a row of zeros that stays at the offset.
 pub fn read_row(t: &[u8], at: usize) -> Row
     ensures { row_from result ≡ row_at t.now at }
 {
-    match read_line(t, at) {
-        Line::Good(r) => r,
-        Line::Bad => {
-            let unit = Unit {
-                number: 0,
-                turnover: 0,
-                random: 0,
-            };
-            Row {
-                unit: unit,
-                next: at,
-            }
-        }
-    }
+    let unit = Unit {
+        number: 0,
+        turnover: 0,
+        random: 0,
+    };
+    read_line(t, at).unwrap_or(Row { unit, next: at })
 }
 
-// The answer for a text and a list of so many places: all lines are read, then 35 is asked.
-pub fn judge(t: &[u8], places: usize) -> Imported
+// The count of units for a text and a list of so many places: all lines are read, then 35 is asked.
+pub fn judge(t: &[u8], places: usize) -> Result<usize, ImportError>
     ensures { imported_from result ≡ imported t.now places }
 {
     let mut at: usize = 0;
     let mut lines: usize = 0;
     while at < t.len() {
-        let line = read_line(t, at);
-        let Line::Good(row) = line else {
-            return Imported::BadLine(at);
+        let Some(row) = read_line(t, at) else {
+            return Err(ImportError::BadLine(at));
         };
         at = row.next;
         lines += 1;
     }
     if places < lines {
-        return Imported::TooMany;
+        return Err(ImportError::TooMany);
     }
-    Imported::Units(lines)
+    Ok(lines)
 }
 
 // How many units an answer fills.
-pub fn taken(answer: Imported) -> usize
+pub fn taken(answer: Result<usize, ImportError>) -> usize
     ensures { result ≡ import_count (imported_from answer) }
 {
-    match answer {
-        Imported::Units(n) => n,
-        Imported::BadLine(_) => 0,
-        Imported::TooMany => 0,
-    }
+    answer.unwrap_or(0)
 }
 
 // Each line fills one unit of the list, in the order of the text.
-pub fn import_units(text: &[u8], list: &mut [Unit]) -> Imported
+pub fn import_units(text: &[u8], list: &mut [Unit]) -> Result<usize, ImportError>
     ensures { (imported_from result ≡ imported text.now (length list.old))
         × (list.new ≡ units_after text.now list.old) }
 {
     let answer = judge(text, list.len());
     let n = taken(answer);
     let mut at: usize = 0;
-    let mut i: usize = 0;
-    while i < n {
-        let r = read_row(text, at);
-        list[i] = r.unit;
-        at = r.next;
-        i += 1;
+    for i in 0..n {
+        let row = read_row(text, at);
+        list[i] = row.unit;
+        at = row.next;
     }
     answer
 }
@@ -141,21 +110,13 @@ fn fill(text: &[u8], count: usize, numbers: &mut [u32], turnovers: &mut [u64], r
     ensures randoms_after { randoms.new ≡ written 0 (column_of (λ (row : RulesRow). row.random) count text.now 0) randoms.old }
 {
     let mut at: usize = 0;
-    let mut i: usize = 0;
-    while i < count {
+    for i in 0..count {
         let found = read_row(text, at);
         numbers[i] = found.unit.number;
         turnovers[i] = found.unit.turnover;
         randoms[i] = found.unit.random;
         at = found.next;
-        i += 1;
     }
-}
-
-fn shorter_of(a: usize, b: usize) -> usize
-    ensures { result ≡ shorter a b }
-{
-    if b < a { b } else { a }
 }
 
 // The same into three lists, as the draw takes them.
@@ -164,13 +125,13 @@ pub fn import_lists(
     numbers: &mut [u32],
     turnovers: &mut [u64],
     randoms: &mut [u32],
-) -> Imported
+) -> Result<usize, ImportError>
     ensures result_value { imported_from result ≡ imported text.now (room_of numbers.old turnovers.old randoms.old) }
     ensures numbers_after { numbers.new ≡ imported_numbers text.now numbers.old turnovers.old randoms.old }
     ensures turnovers_after { turnovers.new ≡ imported_turnovers text.now numbers.old turnovers.old randoms.old }
     ensures randoms_after { randoms.new ≡ imported_randoms text.now numbers.old turnovers.old randoms.old }
 {
-    let places = shorter_of(shorter_of(numbers.len(), turnovers.len()), randoms.len());
+    let places = numbers.len().min(turnovers.len()).min(randoms.len());
     let answer = judge(text, places);
     fill(text, taken(answer), numbers, turnovers, randoms);
     answer

@@ -121,18 +121,12 @@ pub const CHANGE_DECIMALS: usize = 2;
 pub fn bad_index(c: u64) -> bool
     ensures { result ≡ bad_index c }
 {
-    if c < LOWEST_INDEX {
-        return true;
-    }
-    HIGHEST_INDEX < c
+    !(LOWEST_INDEX..=HIGHEST_INDEX).contains(&c)
 }
 
 // 9: a number of units that is 0 or over a panel.
 pub fn bad_units(n: usize) -> bool
     ensures { result ≡ bad_units n }
 {
-    if n == 0 {
-        return true;
-    }
-    MOST_PANEL < n
+    !(1..=MOST_PANEL).contains(&n)
 }

@@ -1,10 +1,11 @@
 -- The change: a signed number times 10,000 by its sign, its quotient and rest, and that no other quotient and rest have the equation of the request.
 use Prim.Native.Nat.{ℕ, zero, suc, ◌+◌, ◌-◌, ◌*◌, ◌/◌, ◌%◌, ◌≤◌, ◌<◌, zero-le}
 use mathlib.Core.Path.{◌≡◌, refl, sym, ap, ap₂, ◌∙◌}
-use lib.IntN.{ℤ, pos, negsuc, neg_ℤ, sub_ℕ, ◌+ℤ◌, ◌-ℤ◌, ◌*ℤ◌}
+use lib.IntN.{ℤ, pos, negsuc, neg_ℤ, nat_abs, sub_ℕ, ◌+ℤ◌, ◌-ℤ◌, ◌*ℤ◌}
 use native.Mathlib.Omega.{arith}
 use native.Mathlib.Nat.{add-zero, div-add-mod', mod-lt, mul-add-div_right, div-eq_of_lt}
 use borrow.Author.Tests.{lt-ltb, le-ltb}
+use Rattle.std.specs.Int.{int_div_euclid, int_rem_euclid}
 use Rattle.rules.specs.Limits.{change_scale}
 use Rattle.rules.specs.Sheet.{divided_by, change_of}
 
@@ -65,6 +66,12 @@ module _ (d : ℕ) (some : 0 < d) where
       let same : z ≡ negsuc n = ◌∙◌ {b = negsuc q *ℤ pos d +ℤ pos r} e (negsuc_plus (suc q * d) r n sum) in
       let back : d - suc ((q * d + (d - suc r)) % d) ≡ r = omega (arith, are.1) in
       rw same (ap₂ (λ (a b : ℕ). record { hundredths = negsuc a; rest = b }) are.0 back)
+
+-- the library's quotient and rest are these
+pub euclid : (d : ℕ) (z q r : ℤ) → q ≡ int_div_euclid z (pos d) → r ≡ int_rem_euclid z (pos d) → record { hundredths = q; rest = nat_abs r } ≡ divided_by d z
+unfolding divided_by
+euclid d (pos n) q r e f = rw (e, f)
+euclid d (negsuc n) q r e f = let rest : d - 1 - n % d ≡ d - suc (n % d) = omega arith in rw (e, f, rest)
 
 -- THEOREM: "(new − old) × 10,000 = c × old + rest and 0 ≤ rest < old"
 pub change_equation : (new old : ℕ) → 0 < old → let c = change_of new old in

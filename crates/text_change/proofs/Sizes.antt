@@ -1,15 +1,14 @@
 -- A change between two figures within their limits: its sign, and its size within the largest.
 use Prim.Native.Nat.{ℕ, suc, ◌+◌, ◌-◌, ◌*◌, ◌/◌, ◌%◌, ◌<◌, ◌≤◌}
 use mathlib.Core.Path.{◌≡◌, sym, ap, ◌∙◌}
-use mathlib.Core.Bool.{Bool, true, false, false≢true}
 use lib.IntN.{pos, negsuc, neg_ℤ}
 use native.Mathlib.Omega.{arith}
 use native.Mathlib.Nat.{div-lt_iff_lt-mul, div-le_of_le-mul}
 use native.Mathlib.Numerals.{add-one}
 use Rattle.rules.specs.Limits.{lowest_index, highest_index, change_scale}
-use Rattle.rules.specs.Sheet.{Change, divided_by, change_of}
+use Rattle.rules.specs.Sheet.{divided_by, change_of}
 use Rattle.rules.proofs.Tests.{by_order}
-use Rattle.text_change.specs.Values.{most_change, signed_by, Sized}
+use Rattle.text_change.specs.Values.{most_change, Sized}
 use Rattle.text_change.proofs.Quotient.{scaled_rise, scaled_fall}
 
 -- ---- a fall, as the code has it: −(n + 1) divided
@@ -44,13 +43,8 @@ rise_size new old high low =
     div-le_of_le-mul old few
 
 -- ---- either
-pub by_sign : (new old : ℕ) → new ≤ highest_index → lowest_index ≤ old
-    → (falls : Bool) × ((size : ℕ) × (Sized falls size × (signed_by falls size ≡ (change_of new old).hundredths)))
-by_sign new old high low =
+pub change_sized : (new old : ℕ) → new ≤ highest_index → lowest_index ≤ old → Sized (change_of new old).hundredths
+change_sized new old high low =
     by_order new old
-    (λ h.
-    let sized : Sized true (below new old / old + 1) = (fall_size new old h, (λ e. omega arith)) in
-    (true, (below new old / old + 1, (sized, ap (λ (c : Change). c.hundredths) (fall new old h)))))
-    (λ h.
-    let sized : Sized false ((new - old) * change_scale / old) = (rise_size new old high low, (λ e. absurd (false≢true e))) in
-    (false, ((new - old) * change_scale / old, (sized, ap (λ (c : Change). c.hundredths) (rise new old h)))))
+    (λ h. rw (sym (fall new old h), add-one (below new old / old)) (rw (add-one (below new old / old)) at (fall_size new old h)))
+    (λ h. rw (sym (rise new old h)) (rise_size new old high low))

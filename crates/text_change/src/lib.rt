@@ -4,48 +4,27 @@
 ghost use Rattle.std.specs.Prelude.{◌≡◌, ◌≤◌};
 ghost use Rattle.rules.specs.Limits.{lowest_index, highest_index};
 ghost use Rattle.rules.specs.Sheet.{change_of};
-ghost use Rattle.text_change.specs.Values.{most_change, signed_by, change_from, Sized};
+ghost use Rattle.text_change.specs.Values.{change_from, Sized};
 
 use limits::CHANGE_SCALE;
 
-// A change by its sign and its size.
-#[derive(Drop)]
+// A change in whole hundredths of a percent, and the rest, which is not negative.
+#[derive(Clone, Copy)]
 pub struct Change {
-    pub falls: bool,
-    pub size: u64,
+    pub hundredths: i64,
     pub rest: u64,
 }
 
-// A fall is divided so that the rest is not negative: −(n + 1) is −(n / old + 1) × old and old − 1 − n % old.
+// The quotient towards minus infinity, so that the rest is not negative.
 pub fn moved(new: u64, old: u64) -> Change
     requires { (new ≤ highest_index) × (lowest_index ≤ old) × (old ≤ highest_index) }
     ensures result_value { change_from result ≡ change_of new old }
-    ensures sized { Sized result.falls result.size }
+    ensures sized { Sized result.hundredths }
 {
-    if new < old {
-        let n = (old - new) * CHANGE_SCALE - 1;
-        return Change {
-            falls: true,
-            size: n / old + 1,
-            rest: old - 1 - n % old,
-        };
-    }
-    let n = (new - old) * CHANGE_SCALE;
+    let old = old as i64;
+    let n = (new as i64 - old) * CHANGE_SCALE as i64;
     Change {
-        falls: false,
-        size: n / old,
-        rest: n % old,
+        hundredths: n.div_euclid(old),
+        rest: n.rem_euclid(old) as u64,
     }
-}
-
-// c itself.
-pub fn signed(falls: bool, size: u64) -> i64
-    requires { size ≤ most_change }
-    ensures { result ≡ signed_by falls size }
-{
-    let n = size as i64;
-    if falls {
-        return 0 - n;
-    }
-    n
 }

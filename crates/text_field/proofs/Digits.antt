@@ -2,31 +2,28 @@
 use mathlib.Core.Path.{◌≡◌, refl, ap}
 use mathlib.Core.Bool.{true, false, cond}
 use mathlib.Core.List.{List, [], ◌∷◌}
-use Prim.Native.Nat.{ℕ, zero, suc, ◌+◌, ◌*◌, ◌-◌, ◌<◌, ◌≤◌}
-use native.Mathlib.Nat.{le_refl, le_of_suc-le-suc, not-suc-le-zero}
+use Prim.Native.Nat.{ℕ, suc, ◌+◌, ◌*◌, ◌-◌, ◌<◌, ◌≤◌}
+use native.Mathlib.Nat.{le_refl}
 use native.Mathlib.Omega.{arith}
 use lib.ListN.{length, get_or, drop}
 use lib.Dec.{leb, ltb}
 use borrow.Author.Tests.{leb-true, lt-ltb, le-ltb}
+use Rattle.std.proofs.Common.{rules}
+use Rattle.std.specs.Char.{is_ascii_digit}
+use Rattle.rules.specs.Tests.{◌and◌}
 use Rattle.rules.specs.Register.{Part, is_digit, digits_in, spelled, sized, field_at}
 use Rattle.rules.proofs.Tests.{and_left, and_right, by_test}
 use Rattle.rules.proofs.Lists.{drop_step, drop_end}
 
 -- ---- bytes
--- past the end there is the byte 0, so a byte that is not 0 lies within the text
-pub past : (t : List ℕ) (i : ℕ) → length t ≤ i → get_or t i 0 ≡ 0
-past [] i h = refl
-past (x ∷ t) zero h = absurd (not-suc-le-zero h)
-past (x ∷ t) (suc i) h = past t i (le_of_suc-le-suc h)
-
-pub inside : (t : List ℕ) (i k : ℕ) → get_or t i 0 ≡ suc k → i < length t
-inside [] i k e = absurd (omega arith)
-inside (x ∷ t) zero k e = omega arith
-inside (x ∷ t) (suc i) k e = omega (arith, inside t i k e)
-
 pub digit_is : (c : ℕ) → is_digit c ≡ true → (48 ≤ c) × (c ≤ 57)
 unfolding is_digit
 digit_is c h = (leb-true _ _ (and_left (leb 48 c) (leb c 57) h), leb-true _ _ (and_right (leb 48 c) (leb c 57) h))
+
+-- the library's digits are these
+pub ascii : (c : ℕ) → is_ascii_digit c ≡ is_digit c
+unfolding is_digit ◌and◌
+ascii c = search rules
 
 -- ---- digits and their number, by the next byte
 module _ (t : List ℕ) (i : ℕ) (inside : i < length t) where

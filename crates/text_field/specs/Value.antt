@@ -1,8 +1,8 @@
 -- Document 02, [14]: what the code's part of a line is in the definitions of `rules`.
+use Rattle.std.specs.Prelude.{ℕ, Option, Some, None}
 use Rattle.rules.specs.Register.{Part as RulesPart}
-use Rattle.text_field.specs.declared.Part.{Part}
-use Rattle.text_field.specs.declared.Part.TheVariants.{Missing, Found}
 
-abbrev pub part_from : Part → RulesPart
-part_from Missing = RulesPart.none
-part_from (Found v n) = RulesPart.found v n
+-- a number and the offset after it, or nothing of the form
+abbrev pub part_from : Option (ℕ × ℕ) → RulesPart
+part_from None = RulesPart.none
+part_from (Some found) = RulesPart.found found.0 found.1

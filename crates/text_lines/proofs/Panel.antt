@@ -1,37 +1,23 @@
--- The lines of the first units of a panel, one unit at a time.
-use Prim.Native.Nat.{ℕ, zero, suc, ◌+◌, ◌≤◌, ◌<◌, min}
-use mathlib.Core.Path.{◌≡◌, refl, sym, ap, ◌∙◌}
+-- The lines of a panel, one unit after the other, until one of the lists ends.
+use Prim.Native.Nat.{ℕ}
+use mathlib.Core.Path.{◌≡◌, refl, sym, ◌∙◌}
+use mathlib.Core.Logic.{◌⊎◌, ⊎_elim}
 use mathlib.Core.List.{List, [], ◌∷◌, ◌++◌, append_assoc, append-nil}
-use lib.ListN.{length, take, get_or}
+use lib.ListN.{length}
 use native.Mathlib.Omega.{arith}
-use native.Mathlib.Numerals.{add-one}
 use Rattle.rules.specs.Lines.{line_of2, panel_lines}
 
--- one unit more
-unit_suc : (i : ℕ) (ns ws : List ℕ) → i < length ns → i < length ws
-    → panel_lines (take i ns) (take i ws) ++ line_of2 80 (get_or ns i 0) (get_or ws i 0) ≡ panel_lines (take (suc i) ns) (take (suc i) ws)
+none_left : (ns ws : List ℕ) → (length ns ≡ 0) ⊎ (length ws ≡ 0) → panel_lines ns ws ≡ []
 unfolding panel_lines
-unit_suc i [] ws h k = let no : ⊥ = omega arith in absurd no
-unit_suc i (n ∷ ns) [] h k = let no : ⊥ = omega arith in absurd no
-unit_suc zero (n ∷ ns) (w ∷ ws) h k = sym (append-nil (line_of2 80 n w))
-unit_suc (suc i) (n ∷ ns) (w ∷ ws) h k =
-    append_assoc (line_of2 80 n w) (panel_lines (take i ns) (take i ws)) (line_of2 80 (get_or ns i 0) (get_or ws i 0))
-    ∙ ap (λ (l : List ℕ). line_of2 80 n w ++ l) (unit_suc i ns ws (omega arith) (omega arith))
+none_left [] ws h = refl
+none_left (n ∷ ns) [] h = refl
+none_left (n ∷ ns) (w ∷ ws) h = let no : ⊥ = ⊎_elim (λ e. omega arith) (λ e. omega arith) h in absurd no
 
-pub one_unit_lem : (i : ℕ) (ns ws : List ℕ) → i < length ns → i < length ws
-    → panel_lines (take i ns) (take i ws) ++ line_of2 80 (get_or ns i 0) (get_or ws i 0) ≡ panel_lines (take (i + 1) ns) (take (i + 1) ws)
-one_unit_lem i ns ws h k = unit_suc i ns ws h k ∙ ap (λ (j : ℕ). panel_lines (take j ns) (take j ws)) (sym (add-one i))
+-- a text that with the lines to come is all of them
+module _ (ns ws text all : List ℕ) (e : text ++ panel_lines ns ws ≡ all) where
+  pub next_line : (n w : ℕ) (ms vs : List ℕ) → ns ≡ n ∷ ms → ws ≡ w ∷ vs → (text ++ line_of2 80 n w) ++ panel_lines ms vs ≡ all
+  unfolding panel_lines
+  next_line n w ms vs h g = append_assoc text (line_of2 80 n w) (panel_lines ms vs) ∙ (rw (h, g) at e)
 
--- all of them
-pub all_units : (i : ℕ) (ns ws : List ℕ) → min (length ns) (length ws) ≤ i → panel_lines (take i ns) (take i ws) ≡ panel_lines ns ws
-unfolding panel_lines
-all_units zero [] ws h = refl
-all_units (suc i) [] ws h = refl
-all_units zero (n ∷ ns) [] h = refl
-all_units (suc i) (n ∷ ns) [] h = refl
-all_units zero (n ∷ ns) (w ∷ ws) h = let no : ⊥ = omega arith in absurd no
-all_units (suc i) (n ∷ ns) (w ∷ ws) h = ap (λ (l : List ℕ). line_of2 80 n w ++ l) (all_units i ns ws (omega arith))
-
-pub no_units : (ns ws : List ℕ) → panel_lines (take 0 ns) (take 0 ws) ≡ []
-unfolding panel_lines
-no_units ns ws = refl
+  pub no_line : (length ns ≡ 0) ⊎ (length ws ≡ 0) → text ≡ all
+  no_line h = sym (append-nil text) ∙ (rw (none_left ns ws h) at e)

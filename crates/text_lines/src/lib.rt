@@ -2,8 +2,8 @@
 // lines are written out at once. Each function answers the bytes that it laid; a buffer without the room named stays as it is.
 #![tactic(auto)]
 
-ghost use Rattle.std.specs.Prelude.{◌≡◌, ◌*◌, ◌≤◌, min, length};
-ghost use Rattle.rules.specs.Lines.{panel_lines, quarter_line, close_line, refusal_line};
+ghost use Rattle.std.specs.Prelude.{◌*◌, ◌≤◌, length};
+ghost use Rattle.rules.specs.Lines.{line_of, panel_lines, quarter_line, close_line, refusal_line};
 ghost use Rattle.text_decimal.specs.Put.{Put};
 ghost use Rattle.text_lines.specs.Laid.{line_room, Lays, PanelLaid};
 
@@ -15,24 +15,28 @@ pub const LINE_ROOM: usize = 44;
 // Bytes that the lines of the largest panel need at most.
 pub const PANEL_ROOM: usize = 4400;
 
-// `Q F`.
-pub fn quarter_line(out: &mut [u8], figure: u64) -> usize
-    ensures { Lays line_room (quarter_line figure) out.old out.new result }
+// A letter and a figure.
+fn figure_line(out: &mut [u8], letter: u8, figure: u64) -> usize
+    ensures { Lays line_room (line_of letter figure) out.old out.new result }
 {
     if out.len() < LINE_ROOM {
         return 0;
     }
-    put_line(out, 0, b'Q', figure)
+    put_line(out, 0, letter, figure)
+}
+
+// `Q F`.
+pub fn quarter_line(out: &mut [u8], figure: u64) -> usize
+    ensures { Lays line_room (quarter_line figure) out.old out.new result }
+{
+    figure_line(out, b'Q', figure)
 }
 
 // `C F`.
 pub fn close_line(out: &mut [u8], figure: u64) -> usize
     ensures { Lays line_room (close_line figure) out.old out.new result }
 {
-    if out.len() < LINE_ROOM {
-        return 0;
-    }
-    put_line(out, 0, b'C', figure)
+    figure_line(out, b'C', figure)
 }
 
 // `R number offset`.
@@ -42,19 +46,7 @@ pub fn refusal_line(out: &mut [u8], number: u8, offset: usize) -> usize
     if out.len() < LINE_ROOM {
         return 0;
     }
-    put_line2(out, 0, b'R', number as u64, offset as u64)
-}
-
-fn wide(x: u32) -> u64
-    ensures { result ≡ x }
-{
-    x as u64
-}
-
-fn shorter(a: usize, b: usize) -> usize
-    ensures { result ≡ min a b }
-{
-    if a < b { a } else { b }
+    put_line2(out, 0, b'R', u64::from(number), offset as u64)
 }
 
 // Lays the lines of a panel at the front.
@@ -62,14 +54,9 @@ fn put_panel(out: &mut [u8], numbers: &[u32], weights: &[u64]) -> usize
     requires { line_room * length numbers.now ≤ length out.old }
     ensures { Put 0 (panel_lines numbers.now weights.now) out.old out.new result }
 {
-    let n = shorter(numbers.len(), weights.len());
     let mut at: usize = 0;
-    let mut i: usize = 0;
-    while i < n {
-        let number = wide(numbers[i]);
-        let weight = weights[i];
-        at = put_line2(out, at, b'P', number, weight);
-        i += 1;
+    for (number, weight) in numbers.iter().zip(weights) {
+        at = put_line2(out, at, b'P', u64::from(*number), *weight);
     }
     at
 }

@@ -1,7 +1,7 @@
 -- After i turns the first i lines stand in the three lists (`written_to`), and `at` is the offset of the next one.
 use mathlib.Core.Path.{◌≡◌}
 use mathlib.Core.List.{List}
-use Prim.Native.Nat.{ℕ, ◌-◌, ◌≤◌}
+use Prim.Native.Nat.{ℕ}
 use Rattle.rules.specs.Register.{Row, column_of}
 use Rattle.rules.proofs.Lists.{written_to}
 use Rattle.frame_lines.proofs.Filled.{offset_at}
@@ -17,7 +17,6 @@ abbrev pub random : Row → ℕ
 random row = row.random
 
 pub record Filled (t : List ℕ) (count : ℕ) (ns₀ ts₀ rs₀ ns ts rs : List ℕ) (at i : ℕ) : Type 0 where
-  pub most : i ≤ count
   pub offset : at ≡ offset_at i t 0
   pub numbers : ns ≡ written_to i (column_of number count t 0) ns₀
   pub turnovers : ts ≡ written_to i (column_of turnover count t 0) ts₀
@@ -25,6 +24,3 @@ pub record Filled (t : List ℕ) (count : ℕ) (ns₀ ts₀ rs₀ ns ts rs : Lis
 
 abbrev pub invariant-loop-i : goal.invariant-loop-i
 invariant-loop-i l = Filled l.text l.count l.initial.numbers l.initial.turnovers l.initial.randoms l.numbers l.turnovers l.randoms l.at l.i
-
-abbrev pub decreases-loop-i : goal.decreases-loop-i
-decreases-loop-i l = l.count - l.i

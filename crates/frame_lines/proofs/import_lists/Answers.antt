@@ -1,21 +1,21 @@
 -- `fill` gets as many lines as the answer takes: none after a refusal, so that every list is then as it was.
 use mathlib.Core.Path.{◌≡◌, ap, ◌∙◌}
-use Prim.Native.Nat.{ℕ, ◌≤◌}
+use Prim.Native.Nat.{ℕ, ◌≤◌, min}
 use native.Mathlib.Omega.{arith}
 use mathlib.Core.List.{List}
 use lib.ListN.{length}
 use Rattle.rules.specs.Refusals.{written}
 use Rattle.rules.specs.Register.{Row, Imported, imported, import_count, column_of, column_after, shorter, room_of, imported_numbers, imported_turnovers, imported_randoms}
 use Rattle.frame_lines.proofs.Scan.{count_le}
-use Rattle.frame_lines.proofs.Filled.{column_filled, room_le}
+use Rattle.frame_lines.proofs.Filled.{column_filled, shorter_is, room_le}
 use Rattle.frame_lines.proofs.import_lists.Goals as goal
 
 -- the calls' results: two lists' room, three lists' room, the answer, and how many units it fills
-module _ (t ns ts rs : List ℕ) (two three count : ℕ) (found : Imported) (first : two ≡ shorter (length ns) (length ts)) (second : three ≡ shorter two (length rs))
+module _ (t ns ts rs : List ℕ) (two three count : ℕ) (found : Imported) (first : two ≡ min (length ns) (length ts)) (second : three ≡ min two (length rs))
     (judged : found ≡ imported t three) (taken : count ≡ import_count found) where
   room : three ≡ room_of ns ts rs
   unfolding room_of
-  room = second ∙ ap (λ (n : ℕ). shorter n (length rs)) first
+  room = second ∙ shorter_is two (length rs) ∙ ap (λ (n : ℕ). shorter n (length rs)) (first ∙ shorter_is (length ns) (length ts))
 
   answer : found ≡ imported t (room_of ns ts rs)
   answer = judged ∙ ap (imported t) room
@@ -32,16 +32,16 @@ module _ (t ns ts rs : List ℕ) (two three count : ℕ) (found : Imported) (fir
 
 pub fill-requires : goal.fill-requires
 fill-requires c =
-    let few = small c.args.text.now c.args.numbers.now c.args.turnovers.now c.args.randoms.now _ _ _ _ c.shorter_of.ensures c.shorter_of-places.ensures c.judge-answer.ensures c.taken.ensures in
+    let few = small c.args.text.now c.args.numbers.now c.args.turnovers.now c.args.randoms.now _ _ _ _ c.min.ensures c.min-places.ensures c.judge-answer.ensures c.taken.ensures in
     let fits = room_le c.args.numbers.now c.args.turnovers.now c.args.randoms.now in
     (omega (arith, fits.0), omega (arith, fits.1), omega (arith, fits.2))
 
 pub returns : goal.returns
 unfolding imported_numbers imported_turnovers imported_randoms
 returns c =
-    let all = filled c.args.text.now c.args.numbers.now c.args.turnovers.now c.args.randoms.now _ _ _ _ c.shorter_of.ensures c.shorter_of-places.ensures c.judge-answer.ensures c.taken.ensures in
+    let all = filled c.args.text.now c.args.numbers.now c.args.turnovers.now c.args.randoms.now _ _ _ _ c.min.ensures c.min-places.ensures c.judge-answer.ensures c.taken.ensures in
     record {
-      result_value = answer c.args.text.now c.args.numbers.now c.args.turnovers.now c.args.randoms.now _ _ _ _ c.shorter_of.ensures c.shorter_of-places.ensures c.judge-answer.ensures c.taken.ensures;
+      result_value = answer c.args.text.now c.args.numbers.now c.args.turnovers.now c.args.randoms.now _ _ _ _ c.min.ensures c.min-places.ensures c.judge-answer.ensures c.taken.ensures;
       numbers_after = c.fill.ensures.numbers_after ∙ all _ _;
       turnovers_after = c.fill.ensures.turnovers_after ∙ all _ _;
       randoms_after = c.fill.ensures.randoms_after ∙ all _ _;

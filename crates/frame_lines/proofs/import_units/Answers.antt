@@ -24,9 +24,8 @@ loop-i-preserved c =
     let i = c.loop-i.i in
     let n = c.taken-n.result in
     record {
-      low = omega arith;
       same = length-set l i _ ∙ inv.same;
-      goes = ap (λ (q : RulesRow). stored (n - (i + 1)) t q.next (i + 1) (set l i (unit_of q))) c.read_row-r.ensures
+      goes = ap (λ (q : RulesRow). stored (n - (i + 1)) t q.next (i + 1) (set l i (unit_of q))) c.read_row-row.ensures
           ∙ sym (stored_step n t c.loop-i.at i l less) ∙ inv.goes;
     }
 
@@ -40,5 +39,5 @@ returns c =
     let taken = c.taken-n.ensures ∙ ap import_count c.judge-answer.ensures in
     let t = c.args.text.now in
     let ys = c.args.list.now in
-    let full = sym (stored_end c.taken-n.result t c.loop-i.at c.loop-i.i c.loop-i.list c.loop-i-test.false) ∙ c.loop-i.invariant.goes in
+    let full = sym (stored_end c.taken-n.result t c.loop-i.at c.loop-i.i c.loop-i.list (omega arith)) ∙ c.loop-i.invariant.goes in
     (c.judge-answer.ensures, full ∙ ap (λ (k : ℕ). stored k t 0 0 ys) taken ∙ units_stored t ys)

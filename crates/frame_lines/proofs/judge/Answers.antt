@@ -18,20 +18,20 @@ returns-in_default c =
     sym (scanned_bad _ c.loop-at.at c.loop-at.lines _ inv.most inv.left c.loop-at-test.true (sym c.in_default.ensures)) ∙ inv.same
 
 pub loop-at-smaller : goal.loop-at-smaller
-loop-at-smaller c = let next = line_goes_on _ _ _ (sym c.in-Good.ensures) in omega arith
+loop-at-smaller c = let next = line_goes_on _ _ _ (sym c.in-Some.ensures) in omega arith
 
 -- a good line, and the next one after it
 pub loop-at-preserved : goal.loop-at-preserved
 loop-at-preserved c =
     let inv = c.loop-at.invariant in
     let more = c.loop-at-test.true in
-    let next = line_goes_on _ _ _ (sym c.in-Good.ensures) in
+    let next = line_goes_on _ _ _ (sym c.in-Some.ensures) in
     let left = inv.left in
     record {
       few = omega (arith, inv.few);
       most = inv.most - 1;
       left = omega arith;
-      same = sym (scanned_good _ c.loop-at.at c.loop-at.lines _ inv.most _ left more (sym c.in-Good.ensures)) ∙ inv.same;
+      same = sym (scanned_good _ c.loop-at.at c.loop-at.lines _ inv.most _ left more (sym c.in-Some.ensures)) ∙ inv.same;
     }
 
 pub returns-then-places-lines : goal.returns-then-places-lines

@@ -6,20 +6,20 @@ use Rattle.text_field.proofs.Found.{comma_found, end_found}
 use Rattle.frame_lines.proofs.Scan.{bad_first, bad_second, bad_third, good_line}
 use Rattle.frame_lines.proofs.read_line.Goals as goal
 
-pub returns-in_default : goal.returns-in_default
-returns-in_default c = sym (bad_first _ _ (sym c.in_default.ensures))
+pub returns-in_err-number : goal.returns-in_err-number
+returns-in_err-number c = rw c.from_residual.ensures (sym (bad_first _ _ (sym c.in_err-number.ensures)))
 
-pub returns-in_default-field_and_comma : goal.returns-in_default-field_and_comma
-returns-in_default-field_and_comma c = sym (bad_second _ _ _ _ (sym c.in-Found.ensures) (sym c.in_default-field_and_comma.ensures))
+pub returns-in_err-turnover : goal.returns-in_err-turnover
+returns-in_err-turnover c = rw c.from_residual-in_err-turnover.ensures (sym (bad_second _ _ _ _ (sym c.in_ok-number.ensures) (sym c.in_err-turnover.ensures)))
 
-pub returns-in_default-field_and_end : goal.returns-in_default-field_and_end
-returns-in_default-field_and_end c = sym (bad_third _ _ _ _ (sym c.in-Found.ensures) _ _ (sym c.in-Found-field_and_comma.ensures) (sym c.in_default-field_and_end.ensures))
+pub returns-in_err-random : goal.returns-in_err-random
+returns-in_err-random c = rw c.from_residual-in_err-random.ensures (sym (bad_third _ _ _ _ (sym c.in_ok-number.ensures) _ _ (sym c.in_ok-turnover.ensures) (sym c.in_err-random.ensures)))
 
 pub overflow_cast-unit : goal.overflow_cast-unit
-overflow_cast-unit c = omega (arith, (comma_found _ _ most_short _ _ (sym c.in-Found.ensures)).0)
+overflow_cast-unit c = omega (arith, (comma_found _ _ most_short _ _ (sym c.in_ok-number.ensures)).0)
 
 pub overflow_cast-unit-2 : goal.overflow_cast-unit-2
-overflow_cast-unit-2 c = omega (arith, (end_found _ _ most_short _ _ (sym c.in-Found-field_and_end.ensures)).0)
+overflow_cast-unit-2 c = omega (arith, (end_found _ _ most_short _ _ (sym c.in_ok-random.ensures)).0)
 
 pub returns : goal.returns
-returns c = sym (good_line _ _ _ _ (sym c.in-Found.ensures) _ _ (sym c.in-Found-field_and_comma.ensures) _ _ (sym c.in-Found-field_and_end.ensures))
+returns c = sym (good_line _ _ _ _ (sym c.in_ok-number.ensures) _ _ (sym c.in_ok-turnover.ensures) _ _ (sym c.in_ok-random.ensures))

@@ -1,13 +1,16 @@
 -- A comma is no byte past the end, so the offset after it fits.
-use mathlib.Core.Path.{sym, ◌∙◌}
-use borrow.Author.Tests.{eq-eqb, ne_eqb}
+use Rattle.std.proofs.Common.{rules}
 use Rattle.rules.specs.Register.{comma_at}
 use Rattle.text_field.proofs.comma.Goals as goal
 
-pub returns-then-byte_at-eq44 : goal.returns-then-byte_at-eq44
+pub returns-in-Some-eq44 : goal.returns-in-Some-eq44
 unfolding comma_at
-returns-then-byte_at-eq44 c = simp (eq-eqb _ _ (sym c.byte_at.ensures ∙ c.if-byte_at-eq44.true))
+returns-in-Some-eq44 c = search rules
 
-pub returns : goal.returns
+pub returns-in_default : goal.returns-in_default
 unfolding comma_at
-returns c = simp (ne_eqb _ _ (λ e. c.if-byte_at-eq44.false (c.byte_at.ensures ∙ e)))
+returns-in_default c = search rules
+
+pub returns-in_default-2 : goal.returns-in_default-2
+unfolding comma_at
+returns-in_default-2 c = search rules

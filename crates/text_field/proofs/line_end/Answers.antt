@@ -1,35 +1,28 @@
--- The four ends in turn. A byte that is not 0 is no byte past the end, so the offset after it fits.
-use mathlib.Core.Path.{sym, ◌∙◌}
-use borrow.Author.Tests.{eq-eqb, ne_eqb}
+-- The four ends in turn. A byte that is there is no byte past the end, so the offset after it fits.
+use Rattle.std.proofs.Common.{rules}
 use Rattle.rules.specs.Register.{end_at}
 use Rattle.text_field.proofs.line_end.Goals as goal
 
-pub returns-then-n-t : goal.returns-then-n-t
+pub returns-in-None : goal.returns-in-None
 unfolding end_at
-returns-then-n-t c = simp (eq-eqb _ _ c.if-n-t.true)
+returns-in-None c = search rules
 
-pub returns-then-c-eq10 : goal.returns-then-c-eq10
+pub returns-in-Some-eq10 : goal.returns-in-Some-eq10
 unfolding end_at
-returns-then-c-eq10 c = simp (ne_eqb _ _ c.if-n-t.false, eq-eqb _ _ (sym c.byte_at-c.ensures ∙ c.if-c-eq10.true))
+returns-in-Some-eq10 c = search rules
 
-pub returns-then-c-ne13 : goal.returns-then-c-ne13
+pub returns-in-Some-eq13 : goal.returns-in-Some-eq13
 unfolding end_at
-returns-then-c-ne13 c = simp (ne_eqb _ _ c.if-n-t.false, ne_eqb _ _ (λ h. c.if-c-eq10.false (c.byte_at-c.ensures ∙ h)), ne_eqb _ _ (λ h. c.if-c-ne13.true (c.byte_at-c.ensures ∙ h)))
+returns-in-Some-eq13 c = search rules
 
-pub returns-then-byte_at-eq10 : goal.returns-then-byte_at-eq10
+pub returns-in_default : goal.returns-in_default
 unfolding end_at
-returns-then-byte_at-eq10 c = let at-3 = c in
-    let byte = at-3.byte_at-c.ensures in
-    let no_end = ne_eqb _ _ at-3.if-n-t.false in
-    let no-feed = ne_eqb _ _ (λ h. at-3.if-c-eq10.false (byte ∙ h)) in
-    let carriage = eq-eqb _ _ (sym byte ∙ at-3.if-c-ne13.false) in
-    simp (no_end, no-feed, carriage, eq-eqb _ _ (sym c.byte_at.ensures ∙ c.if-byte_at-eq10.true))
+returns-in_default c = search rules
 
-pub returns : goal.returns
+pub returns-in_default-2 : goal.returns-in_default-2
 unfolding end_at
-returns c = let at-3 = c in
-    let byte = at-3.byte_at-c.ensures in
-    let no_end = ne_eqb _ _ at-3.if-n-t.false in
-    let no-feed = ne_eqb _ _ (λ h. at-3.if-c-eq10.false (byte ∙ h)) in
-    let carriage = eq-eqb _ _ (sym byte ∙ at-3.if-c-ne13.false) in
-    simp (no_end, no-feed, carriage, ne_eqb _ _ (λ h. c.if-byte_at-eq10.false (c.byte_at.ensures ∙ h)))
+returns-in_default-2 c = search rules
+
+pub returns-in_default-3 : goal.returns-in_default-3
+unfolding end_at
+returns-in_default-3 c = search rules

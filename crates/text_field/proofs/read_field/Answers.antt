@@ -6,7 +6,7 @@ use Prim.Native.Nat.{ℕ, ◌+◌, ◌*◌, ◌-◌, ◌<◌, ◌≤◌}
 use native.Mathlib.Omega.{arith}
 use lib.ListN.{length, get_or}
 use Rattle.rules.specs.Register.{Part, is_digit, field_at}
-use Rattle.text_field.proofs.Digits.{digit_is, field_from, from_start, from_digit, from_other, from_end, from_large}
+use Rattle.text_field.proofs.Digits.{ascii, digit_is, field_from, from_start, from_digit, from_other, from_end, from_large}
 use Rattle.text_field.proofs.read_field.Goals as goal
 
 -- at a digit
@@ -22,26 +22,33 @@ module _ (t : List ℕ) (at most v i : ℕ) (low : at ≤ i) (now : field_from t
 pub loop-i-init : goal.loop-i-init
 loop-i-init c = (omega arith, omega arith, from_start _ _ _)
 
-pub returns-then-not-is_digit : goal.returns-then-not-is_digit
-returns-then-not-is_digit c = let at-loop = c.loop-i in
-    let no : is_digit _ ≡ false = sym c.is_digit.ensures ∙ c.if-not-is_digit.true in
-    c.numbered.ensures ∙ from_other _ _ _ at-loop.v at-loop.i at-loop.invariant.1 c.loop-i-test.true no ∙ at-loop.invariant.2
+pub returns-then-not-is_ascii_digit : goal.returns-then-not-is_ascii_digit
+returns-then-not-is_ascii_digit c =
+    let l = c.loop-i in
+    let no : is_digit _ ≡ false = sym (ascii _) ∙ sym c.is_ascii_digit.ensures.value ∙ c.if-not-is_ascii_digit.true in
+    c.sized.ensures ∙ from_other _ _ _ l.v l.i l.invariant.1 c.loop-i-test.true no ∙ l.invariant.2
 
 pub returns-then-tenth-v : goal.returns-then-tenth-v
-returns-then-tenth-v c = let digit : is_digit _ ≡ true = sym c.is_digit.ensures ∙ c.if-not-is_digit.false in
+returns-then-tenth-v c =
+    let l = c.loop-i in
+    let digit : is_digit _ ≡ true = sym (ascii _) ∙ sym c.is_ascii_digit.ensures.value ∙ c.if-not-is_ascii_digit.false in
     let byte = digit_is _ digit in
-    large _ _ _ c.loop-i.v c.loop-i.i c.loop-i.invariant.0 c.loop-i.invariant.2 c.loop-i-test.true digit (omega arith)
-
-pub overflow_sub-d : goal.overflow_sub-d
-overflow_sub-d c = (digit_is _ (sym c.is_digit.ensures ∙ c.if-not-is_digit.false)).0
+    large _ _ _ l.v l.i (omega arith) l.invariant.2 c.loop-i-test.true digit (omega arith)
 
 pub returns-then-most-tens : goal.returns-then-most-tens
-returns-then-most-tens c = let digit : is_digit _ ≡ true = sym c.is_digit.ensures ∙ c.if-not-is_digit.false in
-    large _ _ _ c.loop-i.v c.loop-i.i c.loop-i.invariant.0 c.loop-i.invariant.2 c.loop-i-test.true digit (omega arith)
+returns-then-most-tens c =
+    let l = c.loop-i in
+    let digit : is_digit _ ≡ true = sym (ascii _) ∙ sym c.is_ascii_digit.ensures.value ∙ c.if-not-is_ascii_digit.false in
+    large _ _ _ l.v l.i (omega arith) l.invariant.2 c.loop-i-test.true digit (omega (arith, c.from-d.ensures))
 
 pub loop-i-preserved : goal.loop-i-preserved
-loop-i-preserved c = (omega arith, omega arith, more _ _ _ c.loop-i.v c.loop-i.i c.loop-i.invariant.0 c.loop-i.invariant.2 c.loop-i-test.true (sym c.is_digit.ensures ∙ c.if-not-is_digit.false))
+loop-i-preserved c =
+    let l = c.loop-i in
+    let digit : is_digit _ ≡ true = sym (ascii _) ∙ sym c.is_ascii_digit.ensures.value ∙ c.if-not-is_ascii_digit.false in
+    (omega arith, omega arith, rw c.from-d.ensures (more _ _ _ l.v l.i (omega arith) l.invariant.2 c.loop-i-test.true digit))
 
 pub returns : goal.returns
-returns c = let at-loop = c.loop-i in
-    c.numbered-2.ensures ∙ from_end _ _ _ at-loop.v at-loop.i at-loop.invariant.1 c.loop-i-test.false ∙ at-loop.invariant.2
+returns c =
+    let l = c.loop-i in
+    let end : length c.args.t.now - c.args.at ≡ l.i - c.args.at = omega arith in
+    c.sized-2.ensures ∙ rw (c.saturating_sub.ensures, end) (from_end _ _ _ l.v l.i l.invariant.1 c.loop-i-test.false ∙ l.invariant.2)

@@ -7,7 +7,4 @@ use Rattle.text_field.proofs.Digits.{field_from}
 use Rattle.text_field.proofs.read_field.Given as goal
 
 abbrev pub invariant-loop-i : goal.invariant-loop-i
-invariant-loop-i l = (l.at ≤ l.i) × (l.v ≤ l.most) × (field_from l.t l.at l.most l.v l.i ≡ field_at l.t l.at l.most)
-
-abbrev pub decreases-loop-i : goal.decreases-loop-i
-decreases-loop-i l = length l.t - l.i
+invariant-loop-i l = (l.i - l.at ≤ length l.t - l.at) × (l.v ≤ l.most) × (field_from l.t l.at l.most l.v l.i ≡ field_at l.t l.at l.most)

@@ -1,32 +1,38 @@
--- The lines of the first i units stand at the front, at most the longest line for each.
-use Prim.Native.Nat.{ℕ, ◌+◌, ◌≤◌}
-use borrow.Author.Rules.{rules}
-use mathlib.Core.Path.{refl, sym, ap, ◌∙◌}
-use mathlib.Core.List.{List, ◌++◌}
-use lib.ListN.{length, take, get_or}
+-- The text so far, and the line of one unit more (`next_line`).
+use mathlib.Core.Path.{ap, ◌∙◌}
+use mathlib.Core.Logic.{⊎_elim, inl, inr}
+use mathlib.Core.List.{[], ◌++◌}
+use lib.ListN.{length}
 use native.Mathlib.Omega.{arith}
-use Rattle.text_lines.proofs.Panel.{one_unit_lem, all_units, no_units}
-use Rattle.text_lines.proofs.Room.{line2_fits, line2_next}
+use borrow.Author.Rules.{rules}
+use Rattle.rules.specs.Lines.{line_of2}
 use Rattle.text_decimal.proofs.Laying.{in_turn, says, nothing}
-use Rattle.text_lines.specs.Laid.{line_room}
-use Rattle.rules.specs.Lines.{line_of2, panel_lines}
+use Rattle.text_lines.proofs.Room.{line2_fits, line2_next}
+use Rattle.text_lines.proofs.Panel.{next_line, no_line}
 use Rattle.text_lines.proofs.put_panel.Goals as goal
 
-pub loop-i-init : goal.loop-i-init
-loop-i-init c = (search rules, search rules, refl, says (sym (no_units c.args.numbers.now c.args.weights.now)) (nothing c.args.out.now))
+pub loop-number-init : goal.loop-number-init
+loop-number-init c =
+    let all = c.zip-number-items in
+    let ns = ap (λ z. z.a.rest.now) c.into_iter-number-iterator.ensures.into_iter_gives ∙ ap (λ z. z.rest.now) all.ensures.first ∙ c.iter.ensures.rest in
+    let ws = ap (λ z. z.b.rest.now) c.into_iter-number-iterator.ensures.into_iter_gives ∙ all.ensures.second.0 in
+    rw (ns, ws) (search rules, omega arith, ([], nothing c.args.out.now, search rules))
 
 pub put_line2-at-requires : goal.put_line2-at-requires
-put_line2-at-requires c = let room : c.loop-i.at + line_room ≤ length c.loop-i.out = omega arith in
-    line2_fits _ _ _ _ _ room
+put_line2-at-requires c = let more = c.in-Some.ensures.steps.0 in line2_fits _ _ _ _ _ (omega (arith, ap length more))
 
-pub loop-i-preserved : goal.loop-i-preserved
-loop-i-preserved c = let at-loop = c in
-    let l = at-loop.loop-i in
-    let a = at-loop.args in
-    let size = line2_next _ _ _ c.put_line2-at.ensures in
-    let line : ℕ → List ℕ = λ m. panel_lines (take l.i a.numbers.now) (take l.i a.weights.now) ++ line_of2 80 m (get_or a.weights.now l.i 0) in
-    let more = ap line c.wide-number.ensures ∙ one_unit_lem l.i a.numbers.now a.weights.now (search rules) (search rules) in
-    (search rules, omega arith, search rules, says more (in_turn l.invariant.3 c.put_line2-at.ensures (omega arith)))
+pub loop-number-preserved : goal.loop-number-preserved
+loop-number-preserved c =
+    let l = c.loop-number.invariant in
+    let steps = c.in-Some.ensures.steps in
+    let line = line_of2 80 c.in-Some.number.now c.in-Some.weight.now in
+    let put = rw c.from.ensures at c.put_line2-at.ensures in (
+      search rules,
+      omega (arith, line2_next _ _ _ put, ap length steps.0),
+      (l.2.0 ++ line, in_turn l.2.1 put (omega arith), next_line _ _ _ _ l.2.2 _ _ _ _ steps.0 steps.1),
+    )
 
 pub returns : goal.returns
-returns c = says (all_units c.loop-i.i c.args.numbers.now c.args.weights.now (search rules)) c.loop-i.invariant.3
+returns c =
+    let l = c.loop-number.invariant.2 in
+    says (no_line _ _ _ _ l.2 (⊎_elim (λ a. inl a.1.0) (λ b. inr b.1.0) c.in-None.ensures.steps)) l.1

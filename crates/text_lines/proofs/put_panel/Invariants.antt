@@ -1,14 +1,16 @@
--- The lines of the first i units stand at the front, at most the longest line for each.
-use Prim.Native.Nat.{◌*◌, ◌-◌, ◌≤◌}
+-- A text stands at the front, which with the lines of the units to come is the panel's, and there is room for these.
+use Prim.Native.Nat.{ℕ, ◌+◌, ◌*◌, ◌≤◌}
 use mathlib.Core.Path.{◌≡◌}
-use lib.ListN.{length, take}
+use mathlib.Core.List.{List, ◌++◌}
+use lib.ListN.{length}
 use Rattle.text_decimal.specs.Put.{Put}
 use Rattle.text_lines.specs.Laid.{line_room}
 use Rattle.rules.specs.Lines.{panel_lines}
 use Rattle.text_lines.proofs.put_panel.Given as goal
 
-abbrev pub invariant-loop-i : goal.invariant-loop-i
-invariant-loop-i l = (l.i ≤ l.n) × (l.at ≤ line_room * l.i) × (length l.out ≡ length l.initial.out) × Put 0 (panel_lines (take l.i l.numbers) (take l.i l.weights)) l.initial.out l.out l.at
-
-abbrev pub decreases-loop-i : goal.decreases-loop-i
-decreases-loop-i l = l.n - l.i
+abbrev pub invariant-loop-number : goal.invariant-loop-number
+invariant-loop-number l =
+    let ns = l.number-iterator.a.rest.now in
+    let ws = l.number-iterator.b.rest.now in
+    (length l.out ≡ length l.initial.out) × (l.at + line_room * length ns ≤ length l.out)
+    × ((text : List ℕ) × Put 0 text l.initial.out l.out l.at × (text ++ panel_lines ns ws ≡ panel_lines l.numbers l.weights))

@@ -1,4 +1,5 @@
 -- A line laid at the front, where the buffer has room for the longest.
+use mathlib.Core.Path.{sym}
 use Rattle.text_lines.proofs.Room.{line2_fits, at_front, no_room}
 use Rattle.text_lines.proofs.refusal_line.Goals as goal
 
@@ -9,4 +10,4 @@ pub put_line2-requires : goal.put_line2-requires
 put_line2-requires c = line2_fits _ _ _ _ _ c.if-out-lt-LINE_ROOM.false
 
 pub returns : goal.returns
-returns c = at_front _ _ _ c.if-out-lt-LINE_ROOM.false c.put_line2.ensures
+returns c = rw (sym c.from.ensures) (at_front _ _ _ c.if-out-lt-LINE_ROOM.false c.put_line2.ensures)

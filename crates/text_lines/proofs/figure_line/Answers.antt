@@ -1,6 +1,6 @@
 -- A line laid at the front, where the buffer has room for the longest.
 use Rattle.text_lines.proofs.Room.{line_fits, at_front, no_room}
-use Rattle.text_lines.proofs.close_line.Goals as goal
+use Rattle.text_lines.proofs.figure_line.Goals as goal
 
 pub returns-then-out-lt-LINE_ROOM : goal.returns-then-out-lt-LINE_ROOM
 returns-then-out-lt-LINE_ROOM c = no_room _ _ _ c.if-out-lt-LINE_ROOM.true
