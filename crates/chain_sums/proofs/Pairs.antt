@@ -34,6 +34,11 @@ any_pair_is test [] ys = refl
 any_pair_is test (x ∷ xs) [] = refl
 any_pair_is test (x ∷ xs) (y ∷ ys) = or_same (test x y) _ _ (any_pair_is test xs ys)
 
+any_same_is : (test : ℕ → ℕ → Bool) (xs : List ℕ) → list_any (λ x. test x x) xs ≡ any_pair test xs xs
+unfolding any_pair
+any_same_is test [] = refl
+any_same_is test (x ∷ xs) = or_same (test x x) _ _ (any_same_is test xs)
+
 -- what `any` answers over one list, and over two
 pub any_one : {F : Type 0} {g : Mut F (Bor ℕ × Unit {0}) Bool} {s : Iter ℕ} {f : F} {r : Bool} (test : ℕ → Bool) (xs : List ℕ) (t : Iter ℕ) →
     ChecksAny fronts g s f r t → iter_rest s ≡ xs → ((x : Bor ℕ) (b : Bool) (q : F) → Called g f (x, tt) b q → (q ≡ f) × (b ≡ test x.now)) → r ≡ any_of test xs
@@ -44,3 +49,8 @@ pub any_two : {F : Type 0} {g : Mut F ((Bor ℕ × Bor ℕ) × Unit {0}) Bool} {
     ((x : Bor ℕ × Bor ℕ) (b : Bool) (q : F) → Called g f (x, tt) b q → (q ≡ f) × (b ≡ test x.0.now x.1.now)) → r ≡ any_pair test xs ys
 any_two {f = f} {r = r} test xs ys t ran a b h =
     any_from_yields_List (λ (p : ℕ × ℕ). test p.0 p.1) t f r ran (YieldsList-from_zip (YieldsList-from_slice xs a) (YieldsList-from_slice ys b)) h ∙ any_pair_is test xs ys
+
+-- a list in step with itself
+pub any_same : {F : Type 0} {g : Mut F (Bor ℕ × Unit {0}) Bool} {s : Iter ℕ} {f : F} {r : Bool} (test : ℕ → ℕ → Bool) (xs : List ℕ) (t : Iter ℕ) →
+    ChecksAny fronts g s f r t → iter_rest s ≡ xs → ((x : Bor ℕ) (b : Bool) (q : F) → Called g f (x, tt) b q → (q ≡ f) × (b ≡ test x.now x.now)) → r ≡ any_pair test xs xs
+any_same {f = f} {r = r} test xs t ran e h = any_from_yields_List (λ x. test x x) t f r ran (YieldsList-from_slice xs e) h ∙ any_same_is test xs

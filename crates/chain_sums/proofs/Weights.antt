@@ -6,7 +6,7 @@ use Prim.Native.Nat.{ℕ, ◌<◌, ◌≤◌}
 use lib.Dec.{ltb}
 use borrow.Author.Tests.{lt-ltb, le-ltb}
 use Rattle.std.specs.Prelude.{Option, Some, None}
-use Rattle.std.specs.Option.{is_none}
+use Rattle.std.specs.Option.{is_none, unwrap_or}
 use Rattle.rules.specs.Limits.{most_weight}
 use Rattle.rules.specs.Lists.{sum, any_pair}
 use Rattle.rules.specs.Refusals.{refuse, ◌then◌}
@@ -26,6 +26,16 @@ limited_told s o e =
     by_order most_weight s
     (λ h. ap is_none (e ∙ sym (limited_over s h)) ∙ sym (lt-ltb most_weight s h))
     (λ h. ap is_none (e ∙ sym (limited_within s h)) ∙ sym (le-ltb most_weight s h))
+
+some_not_none : {k : ℕ} → Some k ≡ None → ⊥
+some_not_none e = cc
+
+-- a sum that is there is the whole sum
+pub limited_gives : (s k : ℕ) → Some k ≡ limited s → (k ≡ s) × (ltb most_weight s ≡ false)
+limited_gives s k e =
+    by_order most_weight s
+    (λ h. absurd (some_not_none (e ∙ sym (limited_over s h))))
+    (λ h. (ap (λ o. unwrap_or o 0) (e ∙ sym (limited_within s h)), le-ltb most_weight s h))
 
 module _ (ms ws : List ℕ) where
   pub weights_low : any_pair bad_weight ms ws ≡ true → 21 ≡ weight_refusal ms ws
