@@ -2,8 +2,9 @@
 // make and judge a record by these methods, so that a further number is a matter of this crate, the definitions and the layout for C.
 #![tactic(auto)]
 
-ghost use Rattle.std.specs.Prelude.{◌≡◌};
-ghost use Rattle.rules.specs.Chain.{bad_links, broken};
+ghost use Rattle.std.specs.Prelude.{◌≡◌, ◌≤◌, length};
+ghost use Rattle.rules.specs.Limits.{most_panel};
+ghost use Rattle.rules.specs.Chain.{held, bad_links, broken};
 ghost use Rattle.chain_record.specs.Record.{Countable, lent_record, opened_numbers, renewed_numbers, closed_numbers, spent_by};
 
 use chain_weight::bad_weight;
@@ -77,6 +78,16 @@ pub struct Record<'a> {
 }
 
 impl Record<'_> {
+    // The v of the units.
+    pub fn held(&self) -> &[u64]
+        requires { self.now.numbers.units ≤ most_panel }
+        ensures value { result.now ≡ held (lent_record self.now) }
+        ensures long { length result.now ≡ self.now.numbers.units }
+    {
+        let places = self.places;
+        &places[..self.numbers.units]
+    }
+
     // 19: whether the record breaks a limit. The number of units is judged before the places are looked at.
     pub fn is_broken(&self) -> bool
         ensures { result ≡ broken (lent_record self.now) }
@@ -85,8 +96,7 @@ impl Record<'_> {
         if bad_units(numbers.units) || numbers.bad_links() || bad_index(numbers.index) {
             return true;
         }
-        let places = self.places;
-        let held = &places[..numbers.units];
+        let held = self.held();
         if held.iter().any(|v| bad_weight(*v, *v)) {
             return true;
         }
