@@ -23,7 +23,7 @@ unfolding ◌or◌
 or_same true b c e = refl
 or_same false b c e = e
 
-any_of_is : (test : ℕ → Bool) (xs : List ℕ) → list_any test xs ≡ any_of test xs
+pub any_of_is : (test : ℕ → Bool) (xs : List ℕ) → list_any test xs ≡ any_of test xs
 unfolding any_of
 any_of_is test [] = refl
 any_of_is test (x ∷ xs) = or_same (test x) _ _ (any_of_is test xs)
