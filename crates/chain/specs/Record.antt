@@ -5,7 +5,7 @@ use Rattle.refusals.specs.declared.Refusal.{Refusal}
 use Rattle.rules.specs.Refusals.{Judged}
 use Rattle.rules.specs.Chain as rules
 use Rattle.rules.specs.Chain.{Call}
-use Rattle.chain_record.specs.Record.{record_with}
+use Rattle.chain_record.specs.Record.{record_with, numbers_of}
 use Rattle.chain.specs.declared.Chain.{Chain}
 use Rattle.chain.specs.declared.Kind.{Kind}
 use Rattle.chain.specs.declared.Kind.TheVariants.{Quarter, Close}
@@ -13,6 +13,10 @@ use Rattle.chain.specs.declared.Kind.TheVariants.{Quarter, Close}
 -- the code's record, with every place of its array
 abbrev pub record_of : Chain → rules.Chain
 record_of c = record_with c.weights c.numbers
+
+-- and back: the code's record of a record of `rules`
+abbrev pub chain_from : rules.Chain → Chain
+chain_from r = record { weights = r.weights; numbers = numbers_of r }
 
 -- a call of this kind with these relatives
 abbrev pub call_by : Kind → List ℕ → Call
