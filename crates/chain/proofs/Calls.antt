@@ -1,26 +1,24 @@
 -- What the steps of a call tell (`rules`, Chain): its refusal, the answer and the record that go with it, and the sizes of an admitted record.
-use mathlib.Core.Path.{◌≡◌, sym, ap, ◌∙◌}
+use mathlib.Core.Path.{◌≡◌, refl, sym, ap, ◌∙◌}
 use mathlib.Core.List.{List, ◌++◌}
-use Prim.Native.Nat.{ℕ, ◌<◌, ◌≤◌, ◌^◌}
+use Prim.Native.Nat.{ℕ, zero, suc, ◌<◌, ◌≤◌, ◌^◌}
 use native.Mathlib.Omega.{arith}
 use lib.ListN.{length, take, drop, length-append, length-drop}
 use lib.Seq.{length-take-le, take_at}
-use Rattle.refusals.specs.Number.{number_of, verdict_of}
+use Rattle.refusals.specs.Number.{number_of}
 use Rattle.refusals.specs.declared.Refusal.{Refusal}
-use Rattle.refusals.specs.declared.Verdict.{Verdict}
 use Rattle.refusals.proofs.Answers.{stops_by_lem, refused_by, stays_by}
 use Rattle.rules.specs.Limits.{relative_scale, most_panel}
-use Rattle.rules.specs.Refusals.{Judged, ◌then◌}
+use Rattle.rules.specs.Refusals.{Judged, ◌then◌, stays}
 use Rattle.rules.specs.Lists.{sum, products, scaled}
 use Rattle.rules.specs.Chain.{Chain, Call, relatives, held, moved, figure_of, accepted, call_answer, after}
-use Rattle.rules.specs.Chain.{call_input_refusal, weight_refusal, call_refusal}
+use Rattle.rules.specs.Chain.{call_input_refusal, weight_refusal, figure_refusal, call_refusal}
 use Rattle.rules.proofs.Refusals.{then_goes, given_tells, refused_tells}
 use Rattle.rules.proofs.Lists.{length_scaled, scaled_take, products_take}
 use Rattle.rules.proofs.Chains.{Admitted}
 use Rattle.chain_sums.proofs.Relatives.{products_bound}
-use Rattle.chain_figure.specs.Steps.{Reckoning, reckoning_of, reckoned_of, reckoned_from}
-use Rattle.chain_figure.specs.declared.Reckoned.{Reckoned}
-use Rattle.chain_figure.specs.declared.Reckoned.TheVariants.{Refused, Figure}
+use Rattle.chain_record.specs.declared.Numbers.{Numbers}
+use Rattle.chain_figure.specs.Steps.{reckoned_of, late_refusal}
 
 -- ---- the answer and the record
 pub refused_call : (r : Chain) (call : Call) (why : Refusal) → number_of why ≡ call_refusal r call →
@@ -33,33 +31,44 @@ pub accepted_call : (r : Chain) (call : Call) (f : ℕ) (next : Chain) → call_
 unfolding call_answer after
 accepted_call r call f next none figure moves = (rw (none, figure), rw (none, moves))
 
--- ---- what the code's reckoning of the relatives tells
-module _ (r : Chain) (ps : List ℕ) (x : Reckoned) (e : reckoned_from x ≡ reckoned_of r ps) where
-  pub input_refused : (call : Call) → relatives call ≡ ps → (why : Refusal) → x ≡ Refused why → number_of why ≡ call_refusal r call
-  unfolding reckoned_of call_refusal
-  input_refused call same why told =
-      let number = refused_tells _ _ _ (sym (ap reckoned_from told) ∙ e) in
-      stops_by_lem why _ _ (number ∙ ap (call_input_refusal r) (sym same))
+stays_same : (n : ℕ) (r : Chain) → r ≡ stays n r r
+stays_same zero r = refl
+stays_same (suc n) r = refl
 
-  module _ (f : ℕ) (late : Verdict) (told : x ≡ Figure f late) where
-    tells : (call_input_refusal r ps ≡ 0) × (record { figure = f; late = verdict_of late } ≡ reckoning_of r ps)
+pub quarter_stays : (r : Chain) (ps : List ℕ) → r ≡ after r (Call.quarter ps)
+unfolding after
+quarter_stays r ps = stays_same (call_refusal r (Call.quarter ps)) r
+
+-- ---- what the code's reckoning of the relatives tells
+module _ (r : Chain) (ps : List ℕ) where
+  pub input_refused : (why : Refusal) (call : Call) → relatives call ≡ ps → Judged.refused (number_of why) ≡ reckoned_of r ps → number_of why ≡ call_refusal r call
+  unfolding reckoned_of call_refusal
+  input_refused why call same e = stops_by_lem why _ _ (refused_tells _ _ _ e ∙ ap (call_input_refusal r) (sym same))
+
+  module _ (f : ℕ) (e : Judged.given f ≡ reckoned_of r ps) where
+    tells : (call_input_refusal r ps ≡ 0) × (f ≡ figure_of r ps)
     unfolding reckoned_of
-    tells = given_tells _ _ _ (sym (ap reckoned_from told) ∙ e)
+    tells = given_tells _ _ _ e
 
     pub passed : call_input_refusal r ps ≡ 0
     passed = tells.0
 
     pub figure_is : f ≡ figure_of r ps
-    figure_is = ap (λ (y : Reckoning). y.figure) tells.1
+    figure_is = tells.1
 
     -- what is left to refuse: 23 and 24 of a quarter, and of a close 21 and 22 of the new weights before them
-    pub quarter_refusal : call_refusal r (Call.quarter ps) ≡ verdict_of late
-    unfolding call_refusal ◌then◌
-    quarter_refusal = then_goes _ _ passed ∙ sym (ap (λ (y : Reckoning). y.late) tells.1)
+    module _ (n : Numbers) (links : n.links ≡ r.links) where
+      late_is : late_refusal f n ≡ figure_refusal r ps
+      unfolding late_refusal figure_refusal
+      late_is = rw (figure_is, links)
 
-    pub close_refusal : call_refusal r (Call.close ps) ≡ (weight_refusal (held r) (moved r ps) then verdict_of late)
-    unfolding call_refusal
-    close_refusal = then_goes _ _ passed ∙ sym (ap (λ (y : Reckoning). weight_refusal (held r) (moved r ps) then y.late) tells.1)
+      pub quarter_refusal : late_refusal f n ≡ call_refusal r (Call.quarter ps)
+      unfolding call_refusal ◌then◌
+      quarter_refusal = late_is ∙ sym (then_goes _ _ passed)
+
+      pub close_refusal : (weight_refusal (held r) (moved r ps) then late_refusal f n) ≡ call_refusal r (Call.close ps)
+      unfolding call_refusal
+      close_refusal = ap (λ (k : ℕ). weight_refusal (held r) (moved r ps) then k) late_is ∙ sym (then_goes _ _ passed)
 
 -- ---- the places of an admitted record
 -- after a close: the moved weights, and the places beyond the units as they are

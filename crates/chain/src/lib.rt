@@ -4,14 +4,13 @@
 
 ghost use Rattle.std.specs.Prelude.{◌≡◌};
 ghost use Rattle.rules.specs.Chain.{Call, call_answer, after};
-ghost use Rattle.chain_record.specs.Record.{empty_record};
-ghost use Rattle.chain.specs.Record.{chain_with, record_of, call_by, answer_from, refused_with, figured_with};
+ghost use Rattle.chain_record.specs.Record.{empty_record, lent_record};
+ghost use Rattle.chain.specs.Record.{record_of, call_by, answer_from};
 
-use chain_figure::Reckoned;
-use chain_record::Numbers;
+use chain_record::{Numbers, Record};
 use chain_relative::Relative;
 use limits::MOST_PANEL;
-use refusals::{Refusal, Verdict};
+use refusals::Refusal;
 
 // `weights` has every place of the record; the units' v are the first `units` of them.
 #[derive(Clone, Copy)]
@@ -21,51 +20,17 @@ pub struct Chain {
 }
 
 // Which of the two a call is.
-#[derive(Clone, Copy)]
+#[derive(Clone, Copy, Debug, PartialEq, Eq)]
 pub enum Kind {
     Quarter,
     Close,
 }
 
-#[derive(Drop)]
-pub enum Answer {
-    Figure(u64),
-    Refused(Refusal),
-}
-
-// The next record beside the figure or the refusal.
-#[derive(Drop)]
+// The next record beside the figure or the refusal, since document 01 wants both of a call by value.
+#[derive(Clone, Copy)]
 pub struct Answered {
     pub chain: Chain,
-    pub answer: Answer,
-}
-
-// The record of these places and numbers, whatever they are.
-pub fn of(weights: [u64; MOST_PANEL], numbers: Numbers) -> Chain
-    ensures { result ≡ chain_with weights numbers }
-{
-    Chain {
-        weights: weights,
-        numbers: numbers,
-    }
-}
-
-fn refused(chain: Chain, why: Refusal) -> Answered
-    ensures { result ≡ refused_with chain why }
-{
-    Answered {
-        chain: chain,
-        answer: Answer::Refused(why),
-    }
-}
-
-fn figured(chain: Chain, f: u64) -> Answered
-    ensures { result ≡ figured_with chain f }
-{
-    Answered {
-        chain: chain,
-        answer: Answer::Figure(f),
-    }
+    pub answer: Result<u64, Refusal>,
 }
 
 impl Chain {
@@ -73,8 +38,52 @@ impl Chain {
     pub fn empty() -> Chain
         ensures { record_of result ≡ empty_record }
     {
-        let places = [0u64; MOST_PANEL];
-        of(places, chain_record::none())
+        Chain {
+            weights: [0u64; MOST_PANEL],
+            numbers: Numbers::default(),
+        }
+    }
+
+    // The record as a call is lent it.
+    pub fn lent(&self) -> Record
+        ensures { lent_record result ≡ record_of self.now }
+    {
+        Record {
+            places: &self.weights,
+            numbers: self.numbers,
+        }
+    }
+
+    // The figure of a quarter on a lent record.
+    fn quarter_lent(&self, p: &[u32]) -> Result<u64, Refusal>
+        ensures { answer_from result ≡ call_answer (record_of self.now) (Call.quarter p.now) }
+    {
+        let figure = chain_figure::reckon(&self.lent(), p)?;
+        chain_figure::judge_figure(figure, self.numbers)?;
+        Ok(figure)
+    }
+
+    // The figure of a close, which moves the weights of a lent record, judged before the figure, sets the index and counts one close.
+    fn close_lent(&mut self, p: &[u32]) -> Result<u64, Refusal>
+        ensures answer_value { answer_from result ≡ call_answer (record_of self.old) (Call.close p.now) }
+        ensures self_after { record_of self.new ≡ after (record_of self.old) (Call.close p.now) }
+    {
+        let figure = chain_figure::reckon(&self.lent(), p)?;
+        let numbers = self.numbers;
+        let mut places = self.weights;
+        chain_sums::scale_into(
+            &self.weights,
+            p,
+            Relative::SCALE,
+            &mut places[..numbers.units],
+        );
+        chain_sums::judge_weights(self.lent().held(), &places[..numbers.units])?;
+        chain_figure::judge_figure(figure, numbers)?;
+        *self = Chain {
+            weights: places,
+            numbers: numbers.closed(figure),
+        };
+        Ok(figure)
     }
 
     // The figure of a quarter; the record stays as it is.
@@ -82,39 +91,22 @@ impl Chain {
         ensures answer_value { answer_from result.answer ≡ call_answer (record_of self) (Call.quarter p.now) }
         ensures chain_value { record_of result.chain ≡ after (record_of self) (Call.quarter p.now) }
     {
-        let numbers = self.numbers;
-        let reckoned = chain_figure::reckon(&self.weights, numbers, p);
-        match reckoned {
-            Reckoned::Refused(why) => refused(self, why),
-            Reckoned::Figure(f, late) => match late {
-                Verdict::Refused(why) => refused(self, why),
-                Verdict::Accepted => figured(self, f),
-            },
+        let answer = self.quarter_lent(p);
+        Answered {
+            chain: self,
+            answer,
         }
     }
 
-    // The figure of a close, which moves the weights, judged before the figure, sets the index and counts one close.
-    pub fn close(self, p: &[u32]) -> Answered
+    // The figure of a close, and the record after it.
+    pub fn close(mut self, p: &[u32]) -> Answered
         ensures answer_value { answer_from result.answer ≡ call_answer (record_of self) (Call.close p.now) }
         ensures chain_value { record_of result.chain ≡ after (record_of self) (Call.close p.now) }
     {
-        let numbers = self.numbers;
-        let reckoned = chain_figure::reckon(&self.weights, numbers, p);
-        match reckoned {
-            Reckoned::Refused(why) => refused(self, why),
-            Reckoned::Figure(f, late) => {
-                let units = numbers.units;
-                let mut places = self.weights;
-                chain_sums::scale_into(&self.weights, p, Relative::SCALE, &mut places[..units]);
-                let last = chain_figure::judge_close(&self.weights, &places, units, late);
-                match last {
-                    Verdict::Refused(why) => refused(self, why),
-                    Verdict::Accepted => {
-                        let next = chain_record::closed(numbers, f);
-                        figured(of(places, next), f)
-                    }
-                }
-            }
+        let answer = self.close_lent(p);
+        Answered {
+            chain: self,
+            answer,
         }
     }
 

@@ -2,35 +2,33 @@
 // so that no call copies them.
 #![tactic(auto)]
 
-ghost use Rattle.std.specs.Prelude.{◌≡◌, ◌*◌, ◌/◌, ◌<◌, ◌≤◌, length, take};
-ghost use Rattle.refusals.specs.Number.{verdict_of};
-ghost use Rattle.rules.specs.Limits.{most_panel, most_weight, highest_relative, link_scale};
-ghost use Rattle.rules.specs.Refusals.{◌then◌};
-ghost use Rattle.rules.specs.Chain.{call_input_refusal, weight_refusal, figure_at};
-ghost use Rattle.chain_record.specs.Record.{record_with};
-ghost use Rattle.chain_figure.specs.Steps.{Reckonable, reckoned_of, reckoned_from};
+ghost use Rattle.std.specs.Prelude.{◌≡◌, ◌*◌, ◌/◌, ◌<◌, ◌≤◌};
+ghost use Rattle.refusals.specs.Number.{refusal_of};
+ghost use Rattle.rules.specs.Limits.{most_weight, highest_relative, link_scale};
+ghost use Rattle.rules.specs.Chain.{call_input_refusal, figure_of};
+ghost use Rattle.chain_record.specs.Record.{lent_record};
+ghost use Rattle.chain_figure.specs.Steps.{reckoned_of, reckoned_from, late_refusal};
 
-use chain_record::{Numbers, is_broken, is_spent};
+use chain_record::{Numbers, Record};
 use chain_relative::Relative;
+use chain_weight::bad_relative;
 use limits::{LINK_SCALE, bad_index};
-use refusals::{Refusal, Verdict};
+use refusals::Refusal;
 
 // 19, 9 and 13.
-fn judge_call(places: &[u64], numbers: Numbers, p: &[u32]) -> Verdict
-    requires { length places.now ≡ most_panel }
-    ensures { verdict_of result ≡ call_input_refusal (record_with places.now numbers) p.now }
+fn judge_call(lent: &Record, p: &[u32]) -> Result<(), Refusal>
+    ensures { refusal_of result ≡ call_input_refusal (lent_record lent.now) p.now }
 {
-    if is_broken(places, numbers) {
-        return Verdict::Refused(Refusal::State);
+    if lent.is_broken() {
+        return Err(Refusal::State);
     }
-    let units = numbers.units;
-    if p.len() != units {
-        return Verdict::Refused(Refusal::UnitLists);
+    if p.len() != lent.numbers.units {
+        return Err(Refusal::UnitLists);
     }
-    if chain_sums::any_bad_relative(&places[..units], p) {
-        return Verdict::Refused(Refusal::Relatives);
+    if lent.held().iter().zip(p).any(|(v, r)| bad_relative(*v, *r)) {
+        return Err(Refusal::Relatives);
     }
-    Verdict::Accepted
+    Ok(())
 }
 
 // L = floor(N × 1,000 / V) by quotient and remainder, since N × 1,000 need not fit.
@@ -44,52 +42,32 @@ fn link(n: u64, v: u64) -> u64
 }
 
 // F of a call that 19, 9 and 13 let pass.
-fn figure(places: &[u64], units: usize, index: u64, p: &[u32]) -> u64
-    requires { (units ≤ length places.now) × Reckonable (take units places.now) index p.now }
-    ensures { result ≡ figure_at index (take units places.now) p.now }
+fn figure(lent: &Record, p: &[u32]) -> u64
+    requires { call_input_refusal (lent_record lent.now) p.now ≡ 0 }
+    ensures { result ≡ figure_of (lent_record lent.now) p.now }
 {
-    let sums = chain_sums::weighted_sums(&places[..units], p);
+    let sums = chain_sums::weighted_sums(lent.held(), p);
     let l = link(sums.products, sums.weights);
-    index * l / (LINK_SCALE * Relative::SCALE)
+    lent.numbers.index * l / (LINK_SCALE * Relative::SCALE)
 }
 
-// What a call comes to but for a close's new weights: 19, 9 or 13, or else the figure beside 23 and 24 of it, which 21 and 22 precede.
-#[derive(Drop)]
-pub enum Reckoned {
-    Refused(Refusal),
-    Figure(u64, Verdict),
-}
-
-pub fn reckon(places: &[u64], numbers: Numbers, p: &[u32]) -> Reckoned
-    requires { length places.now ≡ most_panel }
-    ensures { reckoned_from result ≡ reckoned_of (record_with places.now numbers) p.now }
+// What a call comes to but for 21 to 24: 19, 9 or 13, or else the figure.
+pub fn reckon(lent: &Record, p: &[u32]) -> Result<u64, Refusal>
+    ensures { reckoned_from result ≡ reckoned_of (lent_record lent.now) p.now }
 {
-    let input = judge_call(places, numbers, p);
-    match input {
-        Verdict::Refused(why) => Reckoned::Refused(why),
-        Verdict::Accepted => {
-            let f = figure(places, numbers.units, numbers.index, p);
-            let out = bad_index(f);
-            let spent = is_spent(numbers);
-            if out {
-                return Reckoned::Figure(f, Verdict::Refused(Refusal::FigureRange));
-            }
-            if spent {
-                return Reckoned::Figure(f, Verdict::Refused(Refusal::ClosesSpent));
-            }
-            Reckoned::Figure(f, Verdict::Accepted)
-        }
-    }
+    judge_call(lent, p)?;
+    Ok(figure(lent, p))
 }
 
-// 21 and 22 of a close's new weights, beside those that the units had, and then 23 and 24.
-pub fn judge_close(places: &[u64], next: &[u64], units: usize, late: Verdict) -> Verdict
-    requires { (units ≤ length places.now) × (units ≤ length next.now) }
-    ensures { verdict_of result ≡ (weight_refusal (take units places.now) (take units next.now) then verdict_of late) }
+// 23 and 24 of a call with this figure, on a record with these numbers; a close's new weights are judged before.
+pub fn judge_figure(figure: u64, numbers: Numbers) -> Result<(), Refusal>
+    ensures { refusal_of result ≡ late_refusal figure numbers }
 {
-    let moved = chain_sums::judge_weights(&places[..units], &next[..units]);
-    match moved {
-        Verdict::Refused(why) => Verdict::Refused(why),
-        Verdict::Accepted => late,
+    if bad_index(figure) {
+        return Err(Refusal::FigureRange);
     }
+    if numbers.is_spent() {
+        return Err(Refusal::ClosesSpent);
+    }
+    Ok(())
 }

@@ -3,10 +3,15 @@ use Rattle.std.specs.Prelude.{ℕ, ◌+◌, ◌≤◌, Bool, List, [], replicate
 use Rattle.rules.specs.Limits.{most_panel, most_closes}
 use Rattle.rules.specs.Chain.{Chain, spent}
 use Rattle.chain_record.specs.declared.Numbers.{Numbers}
+use Rattle.chain_record.specs.declared.Record.{Record}
 
 -- the record of these places and numbers
 abbrev pub record_with : List ℕ → Numbers → Chain
 record_with places n = record { weights = places; units = n.units; index = n.index; closes = n.closes; links = n.links }
+
+-- the record that a call is lent
+abbrev pub lent_record : Record → Chain
+lent_record r = record_with r.places.now r.numbers
 
 -- and back: what a record holds beside its places
 abbrev pub numbers_of : Chain → Numbers

@@ -2,65 +2,45 @@
 #![tactic(auto)]
 
 ghost use Rattle.std.specs.Prelude.{◌≡◌};
-ghost use Rattle.refusals.specs.declared.Refusal.TheVariants.{State};
+ghost use Rattle.refusals.specs.Number.{refusal_of};
+ghost use Rattle.rules.specs.Refusals.{refuse};
+ghost use Rattle.rules.specs.Chain.{broken};
 ghost use Rattle.rules.specs.Panel.{plain, with_domain};
-ghost use Rattle.rules.specs.Renewal.{renewal_answer, renewal_after};
+ghost use Rattle.rules.specs.Renewal.{with_links, renewal_answer};
 ghost use Rattle.chain.specs.Record.{record_of};
 ghost use Rattle.chain_open.specs.Opened.{opening_of};
-ghost use Rattle.chain_renew.specs.Renewed.{refused_beside, onward, onward_after};
 
 use chain::Chain;
-use chain_open::{Opened, Opening};
+use chain_record::Numbers;
 use refusals::Refusal;
 
-fn refused(chain: Chain, why: Refusal) -> Opened
-    ensures { result ≡ refused_beside chain why }
+// 19 of the record that is handed in.
+fn judge(chain: &Chain) -> Result<(), Refusal>
+    ensures { refusal_of result ≡ refuse (broken (record_of chain.now)) 19 }
 {
-    Opened {
-        chain: chain,
-        answer: Opening::Refused(why),
+    if chain.lent().is_broken() {
+        return Err(Refusal::State);
+    }
+    Ok(())
+}
+
+// The opened record with the links made before it, whichever opening that was.
+fn carried(opened: Chain, before: Numbers) -> Chain
+    ensures { record_of result ≡ with_links before.links (record_of opened) }
+{
+    Chain {
+        numbers: opened.numbers.renewed(before),
+        ..opened
     }
 }
 
-// 19: a record that breaks a limit stays.
-fn broken(chain: Chain) -> Opened
-    ensures { result ≡ refused_beside chain State }
+// A renewal. Nothing of the record but its C and its links goes on; 19 judges all of it. Where it is refused, the caller's record is what it was.
+pub fn renew(chain: Chain, w: &[u64], g: &[u32], a: &[u32]) -> Result<Chain, Refusal>
+    ensures { opening_of result ≡ renewal_answer (record_of chain) (plain w.now g.now a.now) }
 {
-    refused(chain, Refusal::State)
-}
-
-// A renewal from what the opening of its new weights gave, whichever opening that was. Where it is refused, the record stays.
-fn carried(chain: Chain, opened: Opened) -> Opened
-    ensures result_value { opening_of result ≡ onward (record_of chain) (opening_of opened) }
-    ensures chain_value { record_of result.chain ≡ onward_after (record_of chain) (opening_of opened) }
-{
-    let answer = opened.answer;
-    match answer {
-        Opening::Refused(why) => refused(chain, why),
-        Opening::Accepted => {
-            let new = opened.chain;
-            let numbers = chain_record::renewed(new.numbers, chain.numbers);
-            let weights = new.weights;
-            let renewed = chain::of(weights, numbers);
-            Opened {
-                chain: renewed,
-                answer: Opening::Accepted,
-            }
-        }
-    }
-}
-
-// A renewal. Nothing of the record but its C and its links goes on; 19 judges all of it.
-pub fn renew(chain: Chain, w: &[u64], g: &[u32], a: &[u32]) -> Opened
-    ensures result_value { opening_of result ≡ renewal_answer (record_of chain) (plain w.now g.now a.now) }
-    ensures chain_value { record_of result.chain ≡ renewal_after (record_of chain) (plain w.now g.now a.now) }
-{
-    let before = chain.numbers;
-    if chain_record::is_broken(&chain.weights, before) {
-        return broken(chain);
-    }
-    let opened = chain_open::open(w, g, a, before.index);
-    carried(chain, opened)
+    judge(&chain)?;
+    let opened = chain_open::open(w, g, a, chain.numbers.index)?;
+    Ok(carried(opened, chain.numbers))
 }
 
 // A renewal with an outside share. A mark that is not 0 says that the unit was sampled.
@@ -71,14 +51,10 @@ pub fn renew_outside(
     a: &[u32],
     marks: &[u8],
     domain: u32,
-) -> Opened
-    ensures result_value { opening_of result ≡ renewal_answer (record_of chain) (with_domain domain marks.now w.now g.now a.now) }
-    ensures chain_value { record_of result.chain ≡ renewal_after (record_of chain) (with_domain domain marks.now w.now g.now a.now) }
+) -> Result<Chain, Refusal>
+    ensures { opening_of result ≡ renewal_answer (record_of chain) (with_domain domain marks.now w.now g.now a.now) }
 {
-    let held = chain.numbers;
-    if chain_record::is_broken(&chain.weights, held) {
-        return broken(chain);
-    }
-    let opened = chain_open::open_outside(w, g, a, held.index, marks, domain);
-    carried(chain, opened)
+    judge(&chain)?;
+    let outside = chain_open::open_outside(w, g, a, chain.numbers.index, marks, domain)?;
+    Ok(carried(outside, chain.numbers))
 }

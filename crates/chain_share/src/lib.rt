@@ -3,13 +3,13 @@
 #![tactic(auto)]
 
 ghost use Rattle.std.specs.Prelude.{◌≡◌, ◌*◌, ◌/◌, ◌<◌, ◌^◌};
-ghost use Rattle.refusals.specs.Number.{verdict_of};
+ghost use Rattle.refusals.specs.Number.{refusal_of};
 ghost use Rattle.rules.specs.Limits.{share_scale};
 ghost use Rattle.rules.specs.Panel.{shared_unit, each_unit, outside_shared, bad_outside, outside_input_refusal};
 ghost use Rattle.chain_share.specs.Outsideable.{Marked, Layable, Outsideable};
 
 use limits::SHARE_SCALE;
-use refusals::{Refusal, Verdict};
+use refusals::Refusal;
 
 // 29: some unit is sampled and G is 0 or over 1, the sampled shares are all 0, or sampled units differ in W.
 fn bad_outside(marks: &[u8], w: &[u64], g: &[u32], domain: u32) -> bool
@@ -34,22 +34,24 @@ fn bad_outside(marks: &[u8], w: &[u64], g: &[u32], domain: u32) -> bool
 }
 
 // 9 to 13, and then 29.
-pub fn judge(w: &[u64], g: &[u32], a: &[u32], start: u64, marks: &[u8], domain: u32) -> Verdict
-    ensures { verdict_of result ≡ outside_input_refusal domain marks.now w.now g.now a.now start }
+pub fn judge(
+    w: &[u64],
+    g: &[u32],
+    a: &[u32],
+    start: u64,
+    marks: &[u8],
+    domain: u32,
+) -> Result<(), Refusal>
+    ensures { refusal_of result ≡ outside_input_refusal domain marks.now w.now g.now a.now start }
 {
     if marks.len() != w.len() {
-        return Verdict::Refused(Refusal::UnitLists);
+        return Err(Refusal::UnitLists);
     }
-    let input = chain_open_input::judge_input(w, g, a, start);
-    match input {
-        Verdict::Refused(why) => Verdict::Refused(why),
-        Verdict::Accepted => {
-            if bad_outside(marks, w, g, domain) {
-                return Verdict::Refused(Refusal::OutsideShare);
-            }
-            Verdict::Accepted
-        }
+    chain_open_input::judge_input(w, g, a, start)?;
+    if bad_outside(marks, w, g, domain) {
+        return Err(Refusal::OutsideShare);
     }
+    Ok(())
 }
 
 // floor(n × X × G / 10,000).

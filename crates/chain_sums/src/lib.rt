@@ -2,65 +2,32 @@
 // are made of these and of the tests of one unit (crate `chain_weight`).
 #![tactic(auto)]
 
-ghost use Rattle.std.specs.Prelude.{◌≡◌, ◌+◌, ◌<◌, ◌≤◌, ◌^◌, min, length};
-ghost use Rattle.refusals.specs.Number.{verdict_of};
-ghost use Rattle.rules.specs.Limits.{most_weight};
-ghost use Rattle.rules.specs.Lists.{sum, products, scaled, any_pair};
-ghost use Rattle.rules.specs.Chain.{bad_relative, bad_weight, weight_refusal};
+ghost use Rattle.std.specs.Prelude.{◌≡◌, ◌<◌, ◌≤◌, ◌^◌, length};
+ghost use Rattle.refusals.specs.Number.{refusal_of};
+ghost use Rattle.rules.specs.Lists.{sum, products, scaled};
+ghost use Rattle.rules.specs.Chain.{weight_refusal};
+ghost use Rattle.chain_sums.specs.Limited.{limited};
 
-use chain_weight::{bad_relative, bad_weight};
+use chain_weight::bad_weight;
 use limits::MOST_WEIGHT;
-use refusals::{Refusal, Verdict};
+use refusals::Refusal;
 
-// The sum of the weights, cut off above the limit so that no list makes it wrap.
-pub fn capped_sum(weights: &[u64]) -> u64
-    ensures { result ≡ min (sum weights.now) (most_weight + 1) }
+// The sum of the weights, none where it is over the limit.
+pub fn limited_sum(weights: &[u64]) -> Option<u64>
+    ensures { result ≡ limited (sum weights.now) }
 {
     let mut acc: u64 = 0;
-    let mut i: usize = 0;
-    while i < weights.len() {
-        let x = weights[i];
-        if MOST_WEIGHT - acc < x {
-            return MOST_WEIGHT + 1;
+    for x in weights {
+        if MOST_WEIGHT - acc < *x {
+            return None;
         }
-        acc += x;
-        i += 1;
+        acc += *x;
     }
-    acc
-}
-
-// Whether some present unit's weight is below the least.
-pub fn any_low(marks: &[u64], weights: &[u64]) -> bool
-    requires { length marks.now ≡ length weights.now }
-    ensures { result ≡ any_pair bad_weight marks.now weights.now }
-{
-    let mut i: usize = 0;
-    while i < marks.len() {
-        if bad_weight(marks[i], weights[i]) {
-            return true;
-        }
-        i += 1;
-    }
-    false
-}
-
-// Whether some unit's relative is one that its mark does not allow.
-pub fn any_bad_relative(marks: &[u64], p: &[u32]) -> bool
-    requires { length marks.now ≡ length p.now }
-    ensures { result ≡ any_pair bad_relative marks.now p.now }
-{
-    let mut i: usize = 0;
-    while i < marks.len() {
-        if bad_relative(marks[i], p[i]) {
-            return true;
-        }
-        i += 1;
-    }
-    false
+    Some(acc)
 }
 
 // V and N of document 01.
-#[derive(Drop)]
+#[derive(Clone, Copy, Debug, PartialEq, Eq)]
 pub struct Sums {
     pub weights: u64,
     pub products: u64,
@@ -73,12 +40,9 @@ pub fn weighted_sums(v: &[u64], p: &[u32]) -> Sums
 {
     let mut total: u64 = 0;
     let mut acc: u64 = 0;
-    let mut i: usize = 0;
-    while i < v.len() {
-        let x = v[i];
-        total += x;
-        acc += x * (p[i] as u64);
-        i += 1;
+    for (x, y) in v.iter().zip(p) {
+        total += *x;
+        acc += *x * u64::from(*y);
     }
     Sums {
         weights: total,
@@ -91,25 +55,25 @@ pub fn scale_into(v: &[u64], p: &[u32], scale: u64, out: &mut [u64])
     requires { (length p.now ≤ length v.now) × (length out.old ≡ length p.now) × (sum (products v.now p.now) < 2 ^ 64) × (0 < scale) }
     ensures { out.new ≡ scaled scale v.now p.now }
 {
-    let mut i: usize = 0;
-    while i < p.len() {
-        let x = v[i];
-        let moved = x * (p[i] as u64) / scale;
-        out[i] = moved;
-        i += 1;
+    for (i, p) in p.iter().enumerate() {
+        out[i] = v[i] * u64::from(*p) / scale;
     }
 }
 
 // 21 and 22 of the weights that an open or a close would leave.
-pub fn judge_weights(marks: &[u64], weights: &[u64]) -> Verdict
+pub fn judge_weights(marks: &[u64], weights: &[u64]) -> Result<(), Refusal>
     requires { length marks.now ≡ length weights.now }
-    ensures { verdict_of result ≡ weight_refusal marks.now weights.now }
+    ensures { refusal_of result ≡ weight_refusal marks.now weights.now }
 {
-    if any_low(marks, weights) {
-        return Verdict::Refused(Refusal::LowWeight);
+    if marks
+        .iter()
+        .zip(weights)
+        .any(|(mark, weight)| bad_weight(*mark, *weight))
+    {
+        return Err(Refusal::LowWeight);
     }
-    if MOST_WEIGHT < capped_sum(weights) {
-        return Verdict::Refused(Refusal::WeightSum);
+    if limited_sum(weights).is_none() {
+        return Err(Refusal::WeightSum);
     }
-    Verdict::Accepted
+    Ok(())
 }

@@ -1,29 +1,22 @@
--- The tests of a weight and a relative (`rules`, Chain) by the unit's mark, 0 or not, as code asks it.
+-- The tests of a weight and a relative (`rules`, Chain) of a present unit, as code asks them.
 use mathlib.Core.Path.{◌≡◌, refl, ap, ◌∙◌}
-use mathlib.Core.Bool.{Bool, true, false, not}
+use mathlib.Core.Bool.{Bool, true, false}
 use Prim.Native.Nat.{ℕ, zero, suc}
-use native.Mathlib.Omega.{arith}
-use lib.Dec.{ltb, eqb}
+use lib.Dec.{ltb}
+use Rattle.std.specs.Prelude.{Result, Ok, Err}
+use Rattle.std.specs.Result.{is_err}
 use Rattle.rules.specs.Limits.{lowest_relative, highest_relative, least_weight}
 use Rattle.rules.specs.Tests.{outside}
 use Rattle.rules.specs.Refusals.{Judged, refuse, judged}
 use Rattle.rules.specs.Chain.{bad_relative, bad_weight}
-use Rattle.chain_relative.specs.Checked.{checked_answer}
-
-pub weight_absent : (mark w : ℕ) → mark ≡ 0 → bad_weight mark w ≡ false
-unfolding bad_weight
-weight_absent zero w h = refl
-weight_absent (suc mark) w h = absurd (omega arith)
+use Rattle.chain_relative.specs.declared.Relative.{Relative}
+use Rattle.chain_relative.specs.declared.OutOfRange.{OutOfRange}
+use Rattle.chain_relative.specs.Checked.{Checks, answer_from}
 
 pub weight_present : (mark w : ℕ) → (mark ≡ 0 → ⊥) → bad_weight mark w ≡ ltb w least_weight
 unfolding bad_weight
 weight_present zero w h = absurd (h refl)
 weight_present (suc mark) w h = refl
-
-pub relative_absent : (mark p : ℕ) → mark ≡ 0 → bad_relative mark p ≡ not (eqb p 0)
-unfolding bad_relative
-relative_absent zero p h = refl
-relative_absent (suc mark) p h = absurd (omega arith)
 
 -- a present unit's relative is bad exactly where the checking constructor refuses it
 abbrev is_refused : Judged ℕ → Bool
@@ -35,7 +28,11 @@ unfolding refuse
 refused_is true x = refl
 refused_is false x = refl
 
-pub relative_present : (mark p : ℕ) (answer : Judged ℕ) → (mark ≡ 0 → ⊥) → answer ≡ checked_answer p → is_refused answer ≡ bad_relative mark p
+told : (r : Result Relative OutOfRange) → is_err r ≡ is_refused (answer_from r)
+told (Ok p) = refl
+told (Err e) = refl
+
+pub relative_present : (mark p : ℕ) (r : Result Relative OutOfRange) → (mark ≡ 0 → ⊥) → Checks p r → is_err r ≡ bad_relative mark p
 unfolding bad_relative
-relative_present zero p answer h e = absurd (h refl)
-relative_present (suc mark) p answer h e = ap is_refused e ∙ refused_is (outside lowest_relative highest_relative p) p
+relative_present zero p r h e = absurd (h refl)
+relative_present (suc mark) p r h e = told r ∙ ap is_refused e ∙ refused_is (outside lowest_relative highest_relative p) p

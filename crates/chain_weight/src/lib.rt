@@ -5,17 +5,14 @@
 ghost use Rattle.std.specs.Prelude.{◌≡◌};
 ghost use Rattle.rules.specs.Chain.{bad_relative, bad_weight};
 
-use chain_relative::{Checked, Relative};
+use chain_relative::Relative;
 use limits::LEAST_WEIGHT;
 
 // 21: a present unit's weight below the least.
 pub fn bad_weight(mark: u64, weight: u64) -> bool
     ensures { result ≡ bad_weight mark weight }
 {
-    if mark == 0 {
-        return false;
-    }
-    weight < LEAST_WEIGHT
+    mark != 0 && weight < LEAST_WEIGHT
 }
 
 // 13: a present unit's relative out of range, or an absent unit's that is not 0.
@@ -25,8 +22,5 @@ pub fn bad_relative(mark: u64, p: u32) -> bool
     if mark == 0 {
         return p != 0;
     }
-    match Relative::new(p) {
-        Checked::Valid(_) => false,
-        Checked::OutOfRange => true,
-    }
+    Relative::try_from(p).is_err()
 }

@@ -6,9 +6,9 @@ use native.Mathlib.Omega.{arith}
 use native.Mathlib.Numerals.{add-one}
 use lib.ListN.{length, set, length-set, length-append}
 use borrow.Author.Tests.{lt-ltb, le-ltb}
-use Rattle.refusals.specs.Number.{verdict_of}
+use Rattle.refusals.specs.Number.{refusal_of}
 use Rattle.refusals.specs.declared.Refusal.{Refusal}
-use Rattle.refusals.specs.declared.Verdict.{Verdict}
+use Rattle.std.specs.Prelude.{Result, Ok, Err}
 use Rattle.refusals.proofs.Answers.{stays_by}
 use Rattle.rules.specs.Limits.{year_places}
 use Rattle.rules.specs.Refusals.{refuse, ◌then◌, stays, written}
@@ -18,7 +18,6 @@ use Rattle.rules.specs.Year.{four_calls, stops_by, figures_of, up_to, after_all,
 use Rattle.rules.proofs.Refusals.{stays_goes, given_tells, refused_tells}
 use Rattle.rules.proofs.Years.{four_left}
 use Rattle.chain.specs.declared.Chain.{Chain}
-use Rattle.chain.specs.declared.Answer.{Answer}
 use Rattle.chain.specs.Record.{record_of, answer_from}
 use Rattle.chain_year.specs.declared.Run.{Run}
 use Rattle.chain_year.specs.Run.{run_with, year_in, stopped, taken, further}
@@ -26,18 +25,18 @@ use Rattle.chain_year.specs.Run.{run_with, year_in, stopped, taken, further}
 -- ---- one call more
 module _ (run : Run) (call : Call) (buffer : List ℕ) where
   -- a year that was stopped makes none
-  pub stopped_stage : (why : Refusal) → run.came.verdict ≡ Verdict.Refused why → year_in run buffer ≡ further (year_in run buffer) call
+  pub stopped_stage : (why : Refusal) → run.came.verdict ≡ Err why → year_in run buffer ≡ further (year_in run buffer) call
   unfolding further
-  stopped_stage why told = stays_by why _ (sym (ap verdict_of told)) _ _
+  stopped_stage why told = stays_by why _ (sym (ap refusal_of told)) _ _
 
   -- one that goes on makes it, and the code's call of it answers x
-  module _ (goes : run.came.verdict ≡ Verdict.Accepted) (x : Answer) (e : answer_from x ≡ call_answer (record_of run.chain) call) where
+  module _ (goes : run.came.verdict ≡ Ok tt) (x : Result ℕ Refusal) (e : answer_from x ≡ call_answer (record_of run.chain) call) where
     further_goes : let s = year_in run buffer in
         further s call ≡ stays (call_refusal s.chain call) (stopped s (call_refusal s.chain call)) (taken s call)
     unfolding further
-    further_goes = stays_goes _ _ _ (ap verdict_of goes)
+    further_goes = stays_goes _ _ _ (ap refusal_of goes)
 
-    pub refused_stage : (why : Refusal) → x ≡ Answer.Refused why → (next : Run) → next ≡ run_with run.chain (Verdict.Refused why) run.came.count →
+    pub refused_stage : (why : Refusal) → x ≡ Err why → (next : Run) → next ≡ run_with run.chain (Err why) run.came.count →
         year_in next buffer ≡ further (year_in run buffer) call
     unfolding call_answer
     refused_stage why told next made =
@@ -46,7 +45,7 @@ module _ (run : Run) (call : Call) (buffer : List ℕ) where
         let number = refused_tells (call_refusal r call) _ (figure_of r (relatives call)) (sym (ap answer_from told) ∙ e) in
         rw made (ap (stopped s) number ∙ stays_by why (call_refusal r call) number _ (taken s call) ∙ sym further_goes)
 
-    pub taken_stage : (f : ℕ) → x ≡ Answer.Figure f → (next : Run) → next.came.verdict ≡ Verdict.Accepted → next.came.count ≡ run.came.count + 1 →
+    pub taken_stage : (f : ℕ) → x ≡ Ok f → (next : Run) → next.came.verdict ≡ Ok tt → next.came.count ≡ run.came.count + 1 →
         record_of next.chain ≡ after (record_of run.chain) call → year_in next (set buffer run.came.count f) ≡ further (year_in run buffer) call
     unfolding call_answer
     taken_stage f told next accepted counted left =
@@ -138,7 +137,7 @@ onward_more s [] call = refl
 onward_more s (earlier ∷ calls) call = onward_more (further s earlier) calls call
 
 module _ {r : rules.Chain} {before : List ℕ} where
-  pub way_begins : (run : Run) (chain : Chain) → run ≡ run_with chain Verdict.Accepted 0 → record_of chain ≡ r → Way r before [] run before
+  pub way_begins : (run : Run) (chain : Chain) → run ≡ run_with chain (Ok tt) 0 → record_of chain ≡ r → Way r before [] run before
   way_begins run chain made same =
       record { reached = rw (made, same); few = rw made (omega arith); long = refl }
 
@@ -159,7 +158,7 @@ module _ {r : rules.Chain} {before : List ℕ} where
 
 -- too few places: nothing is done
 pub no_room : (chain : Chain) (calls : List Call) (before : List ℕ) → length before < year_places → (run : Run) →
-    run ≡ run_with chain (Verdict.Refused Refusal.YearRoom) 0 → year_in run before ≡ year_of (record_of chain) calls before
+    run ≡ run_with chain (Err Refusal.YearRoom) 0 → year_in run before ≡ year_of (record_of chain) calls before
 unfolding room_refusal year_refusal year_figures year_after refuse ◌then◌
 no_room chain calls before short run made = rw (lt-ltb (length before) year_places short, made)
 

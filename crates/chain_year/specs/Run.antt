@@ -1,7 +1,7 @@
 -- Document 02, [6]: what the code's year has come to, and one call more.
-use Rattle.std.specs.Prelude.{ℕ, ◌+◌, List, set}
-use Rattle.refusals.specs.Number.{verdict_of}
-use Rattle.refusals.specs.declared.Verdict.{Verdict}
+use Rattle.std.specs.Prelude.{ℕ, ◌+◌, List, set, Result}
+use Rattle.refusals.specs.Number.{refusal_of}
+use Rattle.refusals.specs.declared.Refusal.{Refusal}
 use Rattle.rules.specs.Refusals.{stays}
 use Rattle.rules.specs.Chain.{Call, relatives, figure_of, call_refusal, after}
 use Rattle.rules.specs.Year.{Year}
@@ -10,12 +10,12 @@ use Rattle.chain.specs.Record.{record_of}
 use Rattle.chain_year.specs.declared.Came.{Came}
 use Rattle.chain_year.specs.declared.Run.{Run}
 
-abbrev pub run_with : Chain → Verdict → ℕ → Run
+abbrev pub run_with : Chain → Result Unit Refusal → ℕ → Run
 run_with chain verdict count = record { chain = chain; came = record { verdict = verdict; count = count } }
 
 -- what a year has come to, by the code's answer and record and by its buffer
 abbrev pub year_with : Came → Chain → List ℕ → Year
-year_with came chain figures = record { refusal = verdict_of came.verdict; count = came.count; chain = record_of chain; figures = figures }
+year_with came chain figures = record { refusal = refusal_of came.verdict; count = came.count; chain = record_of chain; figures = figures }
 
 abbrev pub year_in : Run → List ℕ → Year
 year_in run figures = year_with run.came run.chain figures

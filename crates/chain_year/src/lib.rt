@@ -7,34 +7,30 @@ ghost use Rattle.rules.specs.Year.{four_calls, year_of};
 ghost use Rattle.chain.specs.Record.{call_by, record_of};
 ghost use Rattle.chain_year.specs.Run.{run_with, year_with, year_in, further};
 
-use chain::{Answer, Chain, Kind};
+use chain::{Chain, Kind};
 use limits::YEAR_PLACES;
-use refusals::{Refusal, Verdict};
+use refusals::Refusal;
 
 // The refusal that stopped it, if one did, and the calls that were accepted.
-#[derive(Clone, Copy)]
+#[derive(Clone, Copy, Debug, PartialEq, Eq)]
 pub struct Came {
-    pub verdict: Verdict,
+    pub verdict: Result<(), Refusal>,
     pub count: usize,
 }
 
 // A year under way, and at its end: its record beside what it has come to.
-#[derive(Drop)]
+#[derive(Clone, Copy)]
 pub struct Run {
     pub chain: Chain,
     pub came: Came,
 }
 
-fn run_of(chain: Chain, verdict: Verdict, count: usize) -> Run
+fn run_of(chain: Chain, verdict: Result<(), Refusal>, count: usize) -> Run
     ensures { result ≡ run_with chain verdict count }
 {
-    let came = Came {
-        verdict: verdict,
-        count: count,
-    };
     Run {
-        chain: chain,
-        came: came,
+        chain,
+        came: Came { verdict, count },
     }
 }
 
@@ -46,18 +42,18 @@ fn call(run: Run, kind: Kind, p: &[u32], figures: &mut [u64]) -> Run
     let came = run.came;
     let verdict = came.verdict;
     match verdict {
-        Verdict::Refused(_) => run,
-        Verdict::Accepted => {
+        Err(_) => run,
+        Ok(()) => {
             let chain = run.chain;
             let count = came.count;
             let answered = chain.call(kind, p);
             let answer = answered.answer;
             match answer {
-                Answer::Refused(why) => run_of(chain, Verdict::Refused(why), count),
-                Answer::Figure(f) => {
+                Err(why) => run_of(chain, Err(why), count),
+                Ok(f) => {
                     figures[count] = f;
                     let next = answered.chain;
-                    run_of(next, Verdict::Accepted, count + 1)
+                    run_of(next, Ok(()), count + 1)
                 }
             }
         }
@@ -77,9 +73,9 @@ pub fn year_of(
         ≡ year_of (record_of chain) (four_calls first.now second.now third.now last.now) figures.old }
 {
     if figures.len() < YEAR_PLACES {
-        return run_of(chain, Verdict::Refused(Refusal::YearRoom), 0);
+        return run_of(chain, Err(Refusal::YearRoom), 0);
     }
-    let none = run_of(chain, Verdict::Accepted, 0);
+    let none = run_of(chain, Ok(()), 0);
     let one = call(none, Kind::Quarter, first, figures);
     let two = call(one, Kind::Quarter, second, figures);
     let three = call(two, Kind::Quarter, third, figures);

@@ -1,33 +1,31 @@
 -- `open`: a refusal of the input is the opening's; else the u are W × g, and what `open_from` makes of them is the opening.
 use native.Mathlib.Omega.{arith}
-use mathlib.Core.Path.{◌≡◌, refl, sym, ap, ◌∙◌}
+use mathlib.Core.Path.{◌≡◌, sym, ap, ◌∙◌}
 use mathlib.Core.List.{List, ◌++◌}
 use Prim.Native.Nat.{ℕ, ◌≤◌}
 use lib.ListN.{length, take, drop, length-append}
 use lib.Seq.{length-take-le, take_at}
+use Rattle.std.proofs.lemmas.Result.{err_from_is_err_and}
 use Rattle.refusals.specs.Number.{number_of}
 use Rattle.refusals.specs.declared.Refusal.{Refusal}
-use Rattle.refusals.proofs.Answers.{stops_by_lem, refused_by, stays_by}
+use Rattle.refusals.proofs.Answers.{stops_by_lem, refused_by}
 use Rattle.rules.specs.Limits.{most_panel}
 use Rattle.rules.specs.Refusals.{Judged, ◌then◌}
 use Rattle.rules.specs.Chain.{shared, open_input_refusal, open_refusal, open_answer}
 use Rattle.rules.proofs.Chains.{Openable, openable}
-use Rattle.chain_record.specs.Record.{empty_record}
-use Rattle.chain_open.specs.Opened.{weighed_answer, weighed_record, opened_record}
+use Rattle.chain_open.specs.Opened.{weighed_answer}
 use Rattle.chain_open.proofs.Fitting.{blank, front, shareable, length_shared, weighable}
 use Rattle.chain_open.proofs.open.Goals as goal
 
 module _ (ws gs rs : List ℕ) (start : ℕ) where
-  refused_input : (why : Refusal) → number_of why ≡ open_input_refusal ws gs rs start →
-      (Judged.refused (number_of why) ≡ open_answer ws gs rs start) × (empty_record ≡ opened_record ws gs rs start)
-  unfolding open_answer opened_record open_refusal
-  refused_input why e = let n = stops_by_lem why _ _ e in (refused_by why _ n _, stays_by why _ n _ _)
+  refused_input : (why : Refusal) → number_of why ≡ open_input_refusal ws gs rs start → Judged.refused (number_of why) ≡ open_answer ws gs rs start
+  unfolding open_answer open_refusal
+  refused_input why e = refused_by why _ (stops_by_lem why _ _ e) _
 
   -- with 9 to 13 passed, the opening from these u is the open
-  weighed : (us : List ℕ) → us ≡ shared ws gs → open_input_refusal ws gs rs start ≡ 0 →
-      (weighed_answer gs us rs start ≡ open_answer ws gs rs start) × (weighed_record gs us rs start ≡ opened_record ws gs rs start)
-  unfolding open_answer opened_record open_refusal ◌then◌
-  weighed us e none = rw (e, none) (refl, refl)
+  weighed : (us : List ℕ) → us ≡ shared ws gs → open_input_refusal ws gs rs start ≡ 0 → weighed_answer gs us rs start ≡ open_answer ws gs rs start
+  unfolding open_answer open_refusal ◌then◌
+  weighed us e none = rw (e, none)
 
   -- the input passes: the units have room
   module _ (none : open_input_refusal ws gs rs start ≡ 0) where
@@ -49,28 +47,28 @@ module _ (ws gs rs : List ℕ) (start : ℕ) where
       u_is = take_at _ _ _ length_u ∙ e
 
 pub slice_bounds-u-end : goal.slice_bounds-u-end
-slice_bounds-u-end c = most c.args.w.now c.args.g.now c.args.a.now c.args.start (sym c.in-Accepted.ensures)
+slice_bounds-u-end c = most c.args.w.now c.args.g.now c.args.a.now c.args.start (sym c.in_ok-judge_input.ensures)
 
 pub slice_bounds-share_into-end : goal.slice_bounds-share_into-end
-slice_bounds-share_into-end c = sym (front _ (most c.args.w.now c.args.g.now c.args.a.now c.args.start (sym c.in-Accepted.ensures)))
+slice_bounds-share_into-end c = sym (front _ (most c.args.w.now c.args.g.now c.args.a.now c.args.start (sym c.in_ok-judge_input.ensures)))
 
 pub share_into-requires : goal.share_into-requires
-share_into-requires c = shareable _ _ _ (opens c.args.w.now c.args.g.now c.args.a.now c.args.start (sym c.in-Accepted.ensures)) _ (front _ (most c.args.w.now c.args.g.now c.args.a.now c.args.start (sym c.in-Accepted.ensures)))
+share_into-requires c = shareable _ _ _ (opens c.args.w.now c.args.g.now c.args.a.now c.args.start (sym c.in_ok-judge_input.ensures)) _ (front _ (most c.args.w.now c.args.g.now c.args.a.now c.args.start (sym c.in_ok-judge_input.ensures)))
 
-pub slice_bounds-u-end-in-Accepted : goal.slice_bounds-u-end-in-Accepted
-slice_bounds-u-end-in-Accepted c = u_room c.args.w.now c.args.g.now c.args.a.now c.args.start (sym c.in-Accepted.ensures) _ c.share_into.ensures
+pub slice_bounds-u-end-2 : goal.slice_bounds-u-end-2
+slice_bounds-u-end-2 c = u_room c.args.w.now c.args.g.now c.args.a.now c.args.start (sym c.in_ok-judge_input.ensures) _ c.share_into.ensures
 
 pub slice_bounds-open_from-end : goal.slice_bounds-open_from-end
-slice_bounds-open_from-end c = sym (length-take-le _ _ (u_room c.args.w.now c.args.g.now c.args.a.now c.args.start (sym c.in-Accepted.ensures) _ c.share_into.ensures))
+slice_bounds-open_from-end c = sym (length-take-le _ _ (u_room c.args.w.now c.args.g.now c.args.a.now c.args.start (sym c.in_ok-judge_input.ensures) _ c.share_into.ensures))
 
 pub open_from-requires : goal.open_from-requires
-open_from-requires c = let o = opens c.args.w.now c.args.g.now c.args.a.now c.args.start (sym c.in-Accepted.ensures) in
-    rw (u_is c.args.w.now c.args.g.now c.args.a.now c.args.start (sym c.in-Accepted.ensures) _ c.share_into.ensures) (weighable _ _ _ o, omega (arith, length_shared _ _ _ o, most c.args.w.now c.args.g.now c.args.a.now c.args.start (sym c.in-Accepted.ensures)))
+open_from-requires c = let o = opens c.args.w.now c.args.g.now c.args.a.now c.args.start (sym c.in_ok-judge_input.ensures) in
+    rw (u_is c.args.w.now c.args.g.now c.args.a.now c.args.start (sym c.in_ok-judge_input.ensures) _ c.share_into.ensures) (weighable _ _ _ o, omega (arith, length_shared _ _ _ o, most c.args.w.now c.args.g.now c.args.a.now c.args.start (sym c.in_ok-judge_input.ensures)))
 
-pub returns-in-Refused : goal.returns-in-Refused
-returns-in-Refused c = let done = refused_input c.args.w.now c.args.g.now c.args.a.now c.args.start c.in-Refused.why c.in-Refused.ensures in
-    record { result_value = rw c.refused.ensures done.0; chain_value = rw c.refused.ensures done.1 }
+pub returns-in_err-judge_input : goal.returns-in_err-judge_input
+returns-in_err-judge_input c = let p = err_from_is_err_and c.from_residual.result c.from_residual.ensures.1 in
+    rw (p.1, p.2) (refused_input c.args.w.now c.args.g.now c.args.a.now c.args.start _ c.in_err-judge_input.ensures)
 
-pub returns-in-Accepted : goal.returns-in-Accepted
-returns-in-Accepted c = let whole = weighed c.args.w.now c.args.g.now c.args.a.now c.args.start _ (u_is c.args.w.now c.args.g.now c.args.a.now c.args.start (sym c.in-Accepted.ensures) _ c.share_into.ensures) (sym c.in-Accepted.ensures) in
-    record { result_value = c.open_from.ensures.result_value ∙ whole.0; chain_value = c.open_from.ensures.chain_value ∙ whole.1 }
+pub returns : goal.returns
+returns c = let none = sym c.in_ok-judge_input.ensures in
+    c.open_from.ensures ∙ weighed c.args.w.now c.args.g.now c.args.a.now c.args.start _ (u_is c.args.w.now c.args.g.now c.args.a.now c.args.start none _ c.share_into.ensures) none

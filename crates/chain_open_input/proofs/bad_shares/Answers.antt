@@ -1,32 +1,36 @@
--- `bad_shares`: the sum so far and the units left make the whole sum, and no share so far was over 1, which keeps the sum small.
+-- `bad_shares` asks its two tests one after the other; shares that are all 0 have the sum 0, and no others have.
 use native.Mathlib.Omega.{arith}
 use mathlib.Core.Path.{◌≡◌, refl, sym, ap, ◌∙◌}
-use mathlib.Core.Bool.{Bool}
-use Prim.Native.Nat.{ℕ}
+use mathlib.Core.Bool.{false}
+use mathlib.Core.List.{List, [], ◌∷◌}
+use Prim.Native.Nat.{ℕ, zero, suc, ◌+◌}
 use lib.Dec.{ltb, eqb}
-use borrow.Author.Tests.{lt-ltb, le-ltb}
+use borrow.Author.Tests.{ne_eqb}
+use Rattle.std.proofs.Common.{rules, zero-add}
+use Rattle.std.proofs.lemmas.Iterator.{YieldsList-from_slice}
+use Rattle.std.proofs.lemmas.Iterator.Search.{all_from_yields_List}
+use Rattle.std.specs.List.{list_all}
 use Rattle.rules.specs.Limits.{share_scale}
 use Rattle.rules.specs.Lists.{sum}
 use Rattle.rules.specs.Chain.{bad_shares}
 use Rattle.rules.proofs.Tests.{or_on, or_off}
-use Rattle.rules.proofs.Lists.{sum_step, sum_end, one_found, one_next, one_none}
+use Rattle.chain_sums.proofs.Pairs.{any_one}
 use Rattle.chain_open_input.proofs.bad_shares.Goals as goal
 
-abbrev over : ℕ → Bool
-over x = ltb share_scale x
+all_zero : (gs : List ℕ) → list_all (λ x. eqb x 0) gs ≡ eqb (sum gs) 0
+unfolding sum
+all_zero [] = refl
+all_zero (zero ∷ gs) = all_zero gs ∙ ap (λ (n : ℕ). eqb n 0) (sym (zero-add (sum gs)))
+all_zero (suc x ∷ gs) = let some : eqb (suc x) 0 ≡ false = ne_eqb (suc x) 0 (λ e. omega arith) in
+    rw some (sym (ne_eqb (suc x + sum gs) 0 (λ e. omega arith)))
 
-pub loop-i-init : goal.loop-i-init
-loop-i-init c = (omega arith, omega arith, omega arith, refl)
-
-pub returns-then-x-gt-SHARE_SCALE : goal.returns-then-x-gt-SHARE_SCALE
+pub returns-then-any : goal.returns-then-any
 unfolding bad_shares
-returns-then-x-gt-SHARE_SCALE c = sym (or_on _ _ (sym (one_found over _ c.loop-i.i _ c.loop-i.invariant.3 c.loop-i-test.true (lt-ltb _ _ c.if-x-gt-SHARE_SCALE.true))))
+returns-then-any c = let over = any_one (λ x. ltb share_scale x) c.args.g.now c.any.new.self c.any.ensures.ran (search rules) (λ x b q k. search rules) in
+    c.if-any.true ∙ sym (or_on _ _ (sym over ∙ c.if-any.true))
 
-pub loop-i-preserved : goal.loop-i-preserved
-loop-i-preserved c = let s = sum_step c.args.g.now c.loop-i.i c.loop-i-test.true in
-    (omega arith, omega arith, omega arith, one_next over _ c.loop-i.i _ c.loop-i.invariant.3 c.loop-i-test.true (le-ltb _ _ c.if-x-gt-SHARE_SCALE.false))
-
-pub returns : goal.returns
+pub returns-else-any : goal.returns-else-any
 unfolding bad_shares
-returns c = let h : c.loop-i.total ≡ sum c.args.g.now = omega (arith, sum_end c.args.g.now c.loop-i.i c.loop-i-test.false) in
-    ap (λ (x : ℕ). eqb x 0) h ∙ sym (or_off _ _ (sym (one_none over c.args.g.now c.loop-i.i _ c.loop-i.invariant.3 c.loop-i-test.false)))
+returns-else-any c = let over = any_one (λ x. ltb share_scale x) c.args.g.now c.any.new.self c.any.ensures.ran (search rules) (λ x b q k. search rules) in
+    let none = all_from_yields_List (λ x. eqb x 0) c.all.new.self _ c.all.result c.all.ensures.ran (YieldsList-from_slice c.args.g.now (search rules)) (λ x b q k. search rules) in
+    none ∙ all_zero c.args.g.now ∙ sym (or_off _ _ (sym over ∙ c.if-any.false))

@@ -1,13 +1,13 @@
 -- `judge_input` gives 9 to 13 or none as its tests say; once 9 does not apply the lists are short and of one length.
-use native.Mathlib.Omega.{arith}
 use mathlib.Core.Path.{◌≡◌, sym, ◌∙◌}
 use mathlib.Core.Bool.{false}
 use mathlib.Core.List.{List}
 use Prim.Native.Nat.{ℕ}
+use Rattle.std.proofs.Common.{rules}
 use Rattle.rules.specs.Refusals.{refuse, ◌then◌}
 use Rattle.rules.specs.Lists.{any_pair}
 use Rattle.rules.specs.Chain.{bad_open_lists, bad_base, bad_shares, bad_index, bad_relative, open_input_refusal}
-use Rattle.rules.proofs.Chains.{even}
+use Rattle.chain_sums.proofs.Pairs.{any_two}
 use Rattle.chain_open_input.proofs.judge_input.Goals as goal
 
 -- with 9 and 10 passed 11 to 13 decide
@@ -30,9 +30,6 @@ pub returns-then-bad_base : goal.returns-then-bad_base
 unfolding open_input_refusal refuse ◌then◌
 returns-then-bad_base c = simp (sym c.bad_lists.ensures ∙ c.if-bad_lists.false, sym c.bad_base.ensures ∙ c.if-bad_base.true)
 
-pub bad_shares-requires : goal.bad_shares-requires
-bad_shares-requires c = let e = even _ _ _ (sym c.bad_lists.ensures ∙ c.if-bad_lists.false) in omega (arith, e.most, e.shares)
-
 pub returns-then-bad_shares : goal.returns-then-bad_shares
 unfolding refuse ◌then◌
 returns-then-bad_shares c = rw (rest c.args.w.now c.args.g.now c.args.a.now c.args.start (sym c.bad_lists.ensures ∙ c.if-bad_lists.false) (sym c.bad_base.ensures ∙ c.if-bad_base.false), sym c.bad_shares.ensures ∙ c.if-bad_shares.true)
@@ -41,13 +38,12 @@ pub returns-then-bad_index : goal.returns-then-bad_index
 unfolding refuse ◌then◌
 returns-then-bad_index c = rw (rest c.args.w.now c.args.g.now c.args.a.now c.args.start (sym c.bad_lists.ensures ∙ c.if-bad_lists.false) (sym c.bad_base.ensures ∙ c.if-bad_base.false), sym c.bad_shares.ensures ∙ c.if-bad_shares.false, sym c.bad_index.ensures ∙ c.if-bad_index.true)
 
-pub any_bad_update-requires : goal.any_bad_update-requires
-any_bad_update-requires c = let e = even _ _ _ (sym c.bad_lists.ensures ∙ c.if-bad_lists.false) in e.shares ∙ sym e.relatives
-
-pub returns-then-any_bad_update : goal.returns-then-any_bad_update
+pub returns-then-any : goal.returns-then-any
 unfolding refuse
-returns-then-any_bad_update c = rw (last c.args.w.now c.args.g.now c.args.a.now c.args.start (sym c.bad_lists.ensures ∙ c.if-bad_lists.false) (sym c.bad_base.ensures ∙ c.if-bad_base.false) (sym c.bad_shares.ensures ∙ c.if-bad_shares.false) (sym c.bad_index.ensures ∙ c.if-bad_index.false), sym c.any_bad_update.ensures ∙ c.if-any_bad_update.true)
+returns-then-any c = let bad = any_two bad_relative c.args.g.now c.args.a.now c.any.new.self c.any.ensures.ran (search rules) (search rules) (λ x b q k. search rules) in
+    rw (last c.args.w.now c.args.g.now c.args.a.now c.args.start (sym c.bad_lists.ensures ∙ c.if-bad_lists.false) (sym c.bad_base.ensures ∙ c.if-bad_base.false) (sym c.bad_shares.ensures ∙ c.if-bad_shares.false) (sym c.bad_index.ensures ∙ c.if-bad_index.false), sym bad ∙ c.if-any.true)
 
 pub returns : goal.returns
 unfolding refuse
-returns c = rw (last c.args.w.now c.args.g.now c.args.a.now c.args.start (sym c.bad_lists.ensures ∙ c.if-bad_lists.false) (sym c.bad_base.ensures ∙ c.if-bad_base.false) (sym c.bad_shares.ensures ∙ c.if-bad_shares.false) (sym c.bad_index.ensures ∙ c.if-bad_index.false), sym c.any_bad_update.ensures ∙ c.if-any_bad_update.false)
+returns c = let bad = any_two bad_relative c.args.g.now c.args.a.now c.any.new.self c.any.ensures.ran (search rules) (search rules) (λ x b q k. search rules) in
+    rw (last c.args.w.now c.args.g.now c.args.a.now c.args.start (sym c.bad_lists.ensures ∙ c.if-bad_lists.false) (sym c.bad_base.ensures ∙ c.if-bad_base.false) (sym c.bad_shares.ensures ∙ c.if-bad_shares.false) (sym c.bad_index.ensures ∙ c.if-bad_index.false), sym bad ∙ c.if-any.false)
