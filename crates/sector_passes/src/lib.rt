@@ -17,8 +17,8 @@ fn sum_marked(values: &[u64], gone: &[bool], mark: bool) -> u64
     ensures { result ≡ sum_of (marked_as mark gone.now) (value_of values.now) (length values.now) }
 {
     let mut sum: u64 = 0;
-    for (value, is_gone) in values.iter().zip(gone) {
-        if *is_gone == mark {
+    for (i, value) in values.iter().enumerate() {
+        if gone[i] == mark {
             sum += *value;
         }
     }
@@ -64,7 +64,7 @@ pub fn settle(interviews: u64, strengths: &[u64], minima: &[u64]) -> [bool; MOST
     ensures result_len { length result ≡ most_sectors }
 {
     let mut gone = [false; MOST_SECTORS];
-    for _pass in 0..strengths.len() {
+    for _k in 0..strengths.len() {
         let rest = interviews - sum_gone(minima, &gone);
         let total = sum_still(strengths, &gone);
         let leave = pass(rest, total, strengths, minima, &mut gone);
