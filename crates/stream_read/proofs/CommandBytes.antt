@@ -1,16 +1,17 @@
 -- A command byte and its kind: where no kind has it, it is out of range; where one has it, it is in range.
-use Prim.Native.Nat.{ℕ, ◌<◌, ◌≤◌}
+use Prim.Native.Nat.{ℕ}
 use mathlib.Core.Path.{◌≡◌, refl, sym, ap, ◌∙◌}
-use mathlib.Core.Bool.{Bool, true, false}
+use mathlib.Core.Bool.{true, false}
 use native.Mathlib.Omega.{arith}
-use lib.Dec.{ltb}
 use borrow.Author.Tests.{lt-ltb, ne_eqb}
 use Rattle.rules.specs.Tests.{outside, ◌or◌}
 use Rattle.rules.specs.Stream.{operands_of, width_of}
 use Rattle.rules.proofs.Tests.{or_on, or_second, by_order, not_both}
 use Rattle.stream_read.specs.declared.Kind.{Kind}
-use Rattle.stream_read.specs.declared.Kind.TheVariants as Kind
-use Rattle.stream_read.specs.Value.{byte_of}
+use Rattle.stream_read.specs.Value.{byte_of, Reads}
+use Rattle.std.proofs.Common.{Result, Ok, Err}
+use Rattle.std.specs.Result.{is_err}
+use Rattle.refusals.specs.declared.Refusal.{Refusal}
 
 pub out_of_range :
     (k : ℕ) → (k ≡ 1 → ⊥) → (k ≡ 2 → ⊥) → (k ≡ 3 → ⊥) → (k ≡ 4 → ⊥) → (k ≡ 5 → ⊥) → (k ≡ 6 → ⊥) → (k ≡ 7 → ⊥) → outside 1 7 k ≡ true
@@ -35,3 +36,8 @@ alone k e = simp (ne_eqb k 1 (never 1 refl), ne_eqb k 2 (never 2 refl), ne_eqb k
   where
     never : (m : ℕ) → outside 1 7 m ≡ false → k ≡ m → ⊥
     never m f q = not_both (outside 1 7 k) e (ap (outside 1 7) q ∙ f)
+
+-- a byte that is read as no kind is out of range, and only such a one
+pub unknown_told : (k : ℕ) (r : Result Kind Refusal) → Reads k r → is_err r ≡ outside 1 7 k
+unknown_told k (Ok kind) e = sym (in_range kind k e)
+unknown_told k (Err why) e = sym e.1

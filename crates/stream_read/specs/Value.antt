@@ -8,7 +8,6 @@ use Rattle.refusals.specs.declared.Refusal.{Refusal}
 use Rattle.stream_read.specs.declared.Command.{Command}
 use Rattle.stream_read.specs.declared.Command.TheVariants.{Unit, Draw, Share, Relative, Open, Quarter, Close}
 use Rattle.stream_read.specs.declared.Kind.{Kind}
-use Rattle.stream_read.specs.declared.Kind.TheVariants as Kind
 
 -- each command with its operands
 abbrev pub command_from : Command → rules.Command

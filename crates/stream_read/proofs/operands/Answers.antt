@@ -1,6 +1,5 @@
 -- Each arm by the table at its command byte; the width leaves room for every operand.
 use native.Mathlib.Omega.{arith}
-use borrow.Author.Tests.{ne_eqb}
 use Rattle.stream_bytes.proofs.Joined.{byte}
 use Rattle.rules.specs.Stream.{operands_of, command_of, width_of}
 use Rattle.stream_read.proofs.operands.Goals as goal

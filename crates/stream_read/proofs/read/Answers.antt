@@ -1,15 +1,12 @@
 -- Each return by the tests that led to it, in the order of the definition.
-use mathlib.Core.Path.{◌≡◌, sym, ap, ◌∙◌, subst}
-use mathlib.Core.Bool.{false}
+use mathlib.Core.Path.{sym, ap, ◌∙◌, subst}
 use Prim.Native.Nat.{ℕ, ◌<◌, ◌≤◌}
 use Rattle.std.proofs.lemmas.Result.{err_from_is_err_and}
-use lib.Dec.{eqb}
 use lib.ListN.{length}
-use borrow.Author.Tests.{le-ltb, lt-ltb, eq-eqb, ne_eqb}
+use borrow.Author.Tests.{le-ltb, lt-ltb}
 use Rattle.rules.specs.Limits.{most_stream}
-use Rattle.rules.specs.Tests.{outside, ◌or◌}
-use Rattle.rules.specs.Refusals.{Judged, refuse, ◌then◌}
-use Rattle.rules.specs.Stream.{Command, Front, width_of, command_of, reading_refusal, reading}
+use Rattle.rules.specs.Refusals.{refuse, ◌then◌}
+use Rattle.rules.specs.Stream.{width_of, command_of, reading_refusal, reading}
 use Rattle.stream_read.proofs.CommandBytes.{in_range}
 use Rattle.stream_read.proofs.read.Goals as goal
 
