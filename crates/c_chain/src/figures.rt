@@ -6,7 +6,6 @@ ghost use Rattle.c_values.specs.Figures.{figure_from};
 ghost use Rattle.c_chain.specs.Record.{list_answer};
 
 use c_values::{Figure, figure_of, record};
-use sector_total::TotalAnswer;
 
 // A quarter on a lent record.
 #[unsafe(no_mangle)]
@@ -32,8 +31,8 @@ pub extern "C" fn vougecress_total(shares: &[u32], indices: &[u64]) -> Figure
 {
     let answer = sector_total::total(shares, indices);
     match answer {
-        TotalAnswer::Total(figure) => Figure { refusal: 0, figure },
-        TotalAnswer::Refused(why) => Figure {
+        Ok(figure) => Figure { refusal: 0, figure },
+        Err(why) => Figure {
             refusal: why.number() as u32,
             figure: 0,
         },

@@ -9,7 +9,6 @@ ghost use Rattle.job_output.specs.Printed.{print_answer, printed_on};
 ghost use Rattle.c_stream.specs.Streams.{read_from, ran_from};
 
 use c_values::reads::{Read, command_read, nothing_read};
-use stream_read::Reading;
 
 // The answer of a run: the bytes of the text that stands in the buffer.
 #[repr(C)]
@@ -25,11 +24,10 @@ pub extern "C" fn vougecress_read(stream: &[u8]) -> Read
     ensures stream_value { rest_of stream.now ≡ drop result.taken stream.now }
 {
     let taken = stream_read::taken(stream);
-    let reading = stream_read::read(stream);
-    match reading {
-        Reading::Found(command) => command_read(command, taken),
-        Reading::Ended => nothing_read(0),
-        Reading::Refused(why) => nothing_read(why.number() as u32),
+    match stream_read::read(stream) {
+        Ok(Some(command)) => command_read(command, taken),
+        Ok(None) => nothing_read(0),
+        Err(why) => nothing_read(u32::from(why.number())),
     }
 }
 
@@ -38,14 +36,13 @@ pub extern "C" fn vougecress_run(stream: &[u8], out: &mut [u8]) -> Run
     ensures value { result ≡ ran_from (print_answer stream.now out.old) }
     ensures out_after { out.new ≡ printed_on stream.now out.old }
 {
-    let answer = job_output::print(stream, out);
-    match answer {
-        job_output::Answer::Laid(bytes) => Run {
+    match job_output::print(stream, out) {
+        Ok(bytes) => Run {
             refusal: 0,
             length: bytes as u64,
         },
-        job_output::Answer::Refused(why) => Run {
-            refusal: why.number() as u32,
+        Err(why) => Run {
+            refusal: u32::from(why.number()),
             length: 0,
         },
     }

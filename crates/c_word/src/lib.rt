@@ -5,8 +5,6 @@ ghost use Rattle.std.specs.Prelude.{◌≡◌};
 ghost use Rattle.rules.specs.Word.{word_of};
 ghost use Rattle.c_word.specs.Found.{found_from};
 
-use stream_bytes::Answer;
-
 #[repr(C)]
 #[derive(Drop)]
 pub struct Found {
@@ -19,12 +17,12 @@ pub extern "C" fn vougecress_word(part: &[u8]) -> Found
     ensures { result ≡ found_from (word_of part.now) }
 {
     match stream_bytes::word(part) {
-        Answer::Found(read) => Found {
+        Ok(read) => Found {
             refusal: 0,
             word: read,
         },
-        Answer::Refused(why) => Found {
-            refusal: why.number() as u32,
+        Err(why) => Found {
+            refusal: u32::from(why.number()),
             word: 0,
         },
     }

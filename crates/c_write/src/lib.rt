@@ -6,6 +6,8 @@ ghost use Rattle.std.specs.Prelude.{◌≡◌};
 ghost use Rattle.rules.specs.Writing.{lists, write_answer, write_bytes, read_all_answer, read_all_lists};
 ghost use Rattle.c_write.specs.Written.{written_from, listed_from};
 
+use stream_write::Lists;
+
 // The bytes of the stream that stands in the buffer.
 #[repr(C)]
 #[derive(Drop)]
@@ -39,13 +41,21 @@ pub extern "C" fn vougecress_write(
         (lists kinds.now sizes.now shares.now numbers.now randoms.now amounts.now)
         out.old }
 {
-    match stream_write::write(kinds, sizes, shares, numbers, randoms, amounts, out) {
-        stream_write::Answer::Bytes(bytes) => Written {
+    let lists = Lists {
+        kinds,
+        sizes,
+        shares,
+        numbers,
+        randoms,
+        amounts,
+    };
+    match stream_write::write(&lists, out) {
+        Ok(bytes) => Written {
             refusal: 0,
             length: bytes as u64,
         },
-        stream_write::Answer::Refused(why) => Written {
-            refusal: why.number() as u32,
+        Err(why) => Written {
+            refusal: u32::from(why.number()),
             length: 0,
         },
     }
@@ -68,12 +78,12 @@ pub extern "C" fn vougecress_read_all(
         (lists kinds.old sizes.old shares.old numbers.old randoms.old amounts.old) }
 {
     match stream_all::read_all(stream, kinds, sizes, shares, numbers, randoms, amounts) {
-        stream_all::Answer::Commands(commands) => Listed {
+        Ok(commands) => Listed {
             refusal: 0,
             count: commands as u64,
         },
-        stream_all::Answer::Refused(why) => Listed {
-            refusal: why.number() as u32,
+        Err(why) => Listed {
+            refusal: u32::from(why.number()),
             count: 0,
         },
     }

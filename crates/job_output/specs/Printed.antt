@@ -1,11 +1,10 @@
 -- Document 01, "Job stream": what a stream prints, laid into a lent buffer. 6: "a result buffer shorter than" what it is to take.
-use Rattle.std.specs.Prelude.{ℕ, ◌+◌, ◌≤◌, ◌≡◌, cond, List, length, ltb}
+use Rattle.std.specs.Prelude.{ℕ, ◌+◌, ◌≤◌, ◌≡◌, cond, List, length, ltb, Result}
 use Rattle.rules.specs.Refusals.{Judged, refuse, judged, written}
 use Rattle.rules.specs.Job.{output}
-use Rattle.refusals.specs.Number.{number_of}
+use Rattle.refusals.specs.Number.{answer_of}
+use Rattle.refusals.specs.declared.Refusal.{Refusal}
 use Rattle.text_decimal.specs.Put.{laid_at}
-use Rattle.job_output.specs.declared.Answer.{Answer}
-use Rattle.job_output.specs.declared.Answer.TheVariants.{Laid, Refused}
 
 unfoldable pub print_refusal : List ℕ → List ℕ → ℕ
 print_refusal stream out = refuse (ltb (length out) (length (output stream))) 6
@@ -19,9 +18,8 @@ unfoldable pub printed_on : List ℕ → List ℕ → List ℕ
 printed_on stream out = written (print_refusal stream out) (output stream) out
 
 -- the code's answer, a refusal by its number
-abbrev pub answer_from : Answer → Judged ℕ
-answer_from (Laid bytes) = Judged.given bytes
-answer_from (Refused why) = Judged.refused (number_of why)
+abbrev pub answer_from : Result ℕ Refusal → Judged ℕ
+answer_from = answer_of (λ bytes. bytes)
 
 -- the buffer with a part of the text from the place at on; it stays where the part has no room
 unfoldable pub fitted : ℕ → List ℕ → List ℕ → List ℕ

@@ -10,13 +10,6 @@ ghost use Rattle.job_output.specs.Printed.{print_answer, printed_on, answer_from
 use job_text::TEXT_ROOM;
 use refusals::Refusal;
 
-// The bytes of the text that stands in the buffer.
-#[derive(Drop)]
-pub enum Answer {
-    Laid(usize),
-    Refused(Refusal),
-}
-
 fn text_room() -> [u8; TEXT_ROOM]
     ensures { panel_room ≡ length result }
 {
@@ -74,14 +67,14 @@ pub fn count(stream: &[u8]) -> usize
 }
 
 // The whole text of a stream at the front of a lent buffer.
-pub fn print(stream: &[u8], out: &mut [u8]) -> Answer
+pub fn print(stream: &[u8], out: &mut [u8]) -> Result<usize, Refusal>
     ensures result_value { answer_from result ≡ print_answer stream.now out.old }
     ensures out_after { out.new ≡ printed_on stream.now out.old }
 {
     let bytes = count(stream);
     if out.len() < bytes {
-        return Answer::Refused(Refusal::ResultBuffer);
+        return Err(Refusal::ResultBuffer);
     }
     pass(stream, out);
-    Answer::Laid(bytes)
+    Ok(bytes)
 }

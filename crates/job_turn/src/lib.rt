@@ -7,7 +7,6 @@ ghost use Rattle.job_turn.specs.Turn.{Renders};
 
 use job_state::Job;
 use job_text::{TEXT_ROOM, continues, lay};
-use stream_read::Reading;
 
 // The job after a turn, the bytes of its text, and whether there is a next turn.
 #[derive(Drop)]
@@ -21,10 +20,7 @@ pub struct Turned {
 fn offset(total: usize, unread: usize) -> usize
     ensures { result ≡ total - unread }
 {
-    if total < unread {
-        return 0;
-    }
-    total - unread
+    total.saturating_sub(unread)
 }
 
 // One turn at the unread part s of a stream of total bytes.
@@ -32,19 +28,18 @@ pub fn turn(total: usize, s: &[u8], job: Job, text: &mut [u8; TEXT_ROOM]) -> Tur
     ensures { Renders total s.now job result text.old text.new }
 {
     let at = offset(total, s.len());
-    let reading = stream_front::reading_at(s);
-    match reading {
-        Reading::Refused(why) => Turned {
+    match stream_front::reading_at(s) {
+        Err(why) => Turned {
             job: job,
             count: text_lines::refusal_line(text, why.number(), at),
             more: false,
         },
-        Reading::Ended => Turned {
+        Ok(None) => Turned {
             job: job,
             count: 0,
             more: false,
         },
-        Reading::Found(command) => {
+        Ok(Some(command)) => {
             let stepped = job::step(job, command);
             let more = continues(stepped);
             let count = lay(text, stepped, at);

@@ -1,14 +1,14 @@
 // Document 02, [10]: the quotas' whole parts and remainders, by T' (`rest`), the strengths left (`total`) and the marks of the sectors that left.
 #![tactic(auto)]
 
-ghost use Rattle.std.specs.Prelude.{◌≡◌, cond, ◌*◌, ◌/◌, ◌%◌, ◌≤◌, ◌<◌, length, eqb};
+ghost use Rattle.std.specs.Prelude.{◌≡◌, cond, ◌*◌, ◌/◌, ◌%◌, ◌≤◌, ◌<◌, length, not};
 ghost use Rattle.rules.specs.Limits.{highest_strength, most_interviews};
-ghost use Rattle.rules.specs.Allocation.{no_places, in_places};
+ghost use Rattle.rules.specs.Allocation.{in_places};
 ghost use Rattle.sector_divide.specs.Quotas.{count_by, whole_by, remainder_by, Dividable};
 
 use limits::MOST_SECTORS;
 
-// The three lists of the answer.
+// The three lists of the answer: a struct for C holds the same three, so they are no list of parts.
 #[derive(Drop)]
 pub struct Quotas {
     pub counts: [u64; MOST_SECTORS],
@@ -25,13 +25,13 @@ struct Part {
 }
 
 // The quota of a sector that is still there, or the minimum of one that left.
-fn quota(rest: u64, total: u64, strength: u64, minimum: u64, gone: u8) -> Part
+fn quota(rest: u64, total: u64, strength: u64, minimum: u64, gone: bool) -> Part
     requires { (0 < total) × (rest ≤ most_interviews) × (strength ≤ highest_strength) }
-    ensures count_value { result.count ≡ cond (eqb gone 0) (rest * strength / total) minimum }
-    ensures whole_value { result.whole ≡ cond (eqb gone 0) (rest * strength / total) 0 }
-    ensures remainder_value { result.remainder ≡ cond (eqb gone 0) (rest * strength % total) 0 }
+    ensures count_value { result.count ≡ cond (not gone) (rest * strength / total) minimum }
+    ensures whole_value { result.whole ≡ cond (not gone) (rest * strength / total) 0 }
+    ensures remainder_value { result.remainder ≡ cond (not gone) (rest * strength % total) 0 }
 {
-    if gone != 0 {
+    if gone {
         return Part {
             count: minimum,
             whole: 0,
@@ -42,39 +42,30 @@ fn quota(rest: u64, total: u64, strength: u64, minimum: u64, gone: u8) -> Part
     let whole = product / total;
     Part {
         count: whole,
-        whole: whole,
+        whole,
         remainder: product % total,
     }
 }
 
-// A list with 0 in every place.
-pub fn blank() -> [u64; MOST_SECTORS]
-    ensures { result ≡ no_places }
-{
-    [0u64; MOST_SECTORS]
-}
-
 // Minima and whole parts, before one more each.
-pub fn divide(rest: u64, total: u64, strengths: &[u64], minima: &[u64], gone: &[u8]) -> Quotas
+pub fn divide(rest: u64, total: u64, strengths: &[u64], minima: &[u64], gone: &[bool]) -> Quotas
     requires { Dividable rest total strengths.now minima.now gone.now }
     ensures counts_value { result.counts ≡ in_places (length strengths.now) (count_by rest total strengths.now minima.now gone.now) }
     ensures wholes_value { result.wholes ≡ in_places (length strengths.now) (whole_by rest total strengths.now gone.now) }
     ensures remainders_value { result.remainders ≡ in_places (length strengths.now) (remainder_by rest total strengths.now gone.now) }
 {
-    let mut counts = blank();
-    let mut wholes = blank();
-    let mut remainders = blank();
-    let mut i: usize = 0;
-    while i < strengths.len() {
-        let p = quota(rest, total, strengths[i], minima[i], gone[i]);
-        counts[i] = p.count;
-        wholes[i] = p.whole;
-        remainders[i] = p.remainder;
-        i += 1;
+    let mut counts = [0; MOST_SECTORS];
+    let mut wholes = [0; MOST_SECTORS];
+    let mut remainders = [0; MOST_SECTORS];
+    for (i, strength) in strengths.iter().enumerate() {
+        let part = quota(rest, total, *strength, minima[i], gone[i]);
+        counts[i] = part.count;
+        wholes[i] = part.whole;
+        remainders[i] = part.remainder;
     }
     Quotas {
-        counts: counts,
-        wholes: wholes,
-        remainders: remainders,
+        counts,
+        wholes,
+        remainders,
     }
 }

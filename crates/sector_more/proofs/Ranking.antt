@@ -5,6 +5,7 @@ use mathlib.Core.List.{List, ◌++◌}
 use Prim.Native.Nat.{ℕ, ◌≤◌, ◌<◌}
 use native.Mathlib.Omega.{arith}
 use lib.ListN.{length, get_or, take, get_or-append}
+use lib.Seq.{get_or-take}
 use Rattle.rules.specs.Selection.{count, listed}
 use Rattle.rules.specs.Order.{ordered}
 use Rattle.rules.specs.TakeAll.{larger}
@@ -28,6 +29,16 @@ ranked_front among before n len top rest long r = record {
   where
     front : (k : ℕ) → k < len → get_or (top ++ rest) k 0 ≡ get_or top k 0
     front k l = get_or-append top rest 0 k (omega arith)
+
+-- the first of the ranked units
+pub ranked_first :
+    (among : ℕ → Bool) (before : ℕ → ℕ → Bool) (n len : ℕ) (top : List ℕ) (m : ℕ) → m ≤ len
+    → Ranked among before n top len → Ranked among before n (take m top) m
+ranked_first among before n len top m few r = record {
+  low = λ k l. rw (get_or-take m top k 0 l) (r.low k (omega arith));
+  mark = λ k l. rw (get_or-take m top k 0 l) (r.mark k (omega arith));
+  at = λ k l. rw (get_or-take m top k 0 l) (r.at k (omega arith));
+}
 
 module _ (still : ℕ → Bool) (keys places : List ℕ) (n many : ℕ) (h : Held still (λ i. i) n places many) where
   held_length : length (take many places) ≡ count still n

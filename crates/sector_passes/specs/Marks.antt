@@ -1,11 +1,16 @@
 -- Document 02, [10]: the marks of the sectors that left, and what the sums and a pass ask.
-use Rattle.std.specs.Prelude.{◌≡◌, Bool, List, ℕ, ◌*◌, ◌≤◌, ◌<◌, length, get_or, ltb, eqb}
+use Rattle.std.specs.Prelude.{◌≡◌, Bool, true, false, not, List, ℕ, ◌*◌, ◌≤◌, ◌<◌, length, get_or, ltb}
 use Rattle.rules.specs.Limits.{most_sectors, highest_strength, most_interviews}
 use Rattle.rules.specs.Selection.{sum_of, every}
 
--- sector i is still there: its mark is 0, as it is beyond the marks
-unfoldable pub still_in : List ℕ → ℕ → Bool
-still_in gone i = eqb (get_or gone i 0) 0
+-- sector i is still there: it has no mark, as it has none beyond the marks
+unfoldable pub still_in : List Bool → ℕ → Bool
+still_in gone i = not (get_or gone i false)
+
+-- sector i has the mark, or has none
+abbrev pub marked_as : Bool → List Bool → ℕ → Bool
+marked_as true gone i = not (still_in gone i)
+marked_as false gone i = still_in gone i
 
 -- the value of sector i
 abbrev pub value_of : List ℕ → ℕ → ℕ
@@ -16,12 +21,12 @@ abbrev pub is_below : ℕ → ℕ → List ℕ → List ℕ → ℕ → Bool
 is_below rest total ss ms i = ltb (rest * get_or ss i 0) (get_or ms i 0 * total)
 
 -- There is a mark for each value, and their sum is as low as strengths and minima are.
-pub record Summable (values gone : List ℕ) : Type 0 where
+pub record Summable (values : List ℕ) (gone : List Bool) : Type 0 where
   pub room : length values ≤ length gone
   pub low : sum_of every (value_of values) (length values) ≤ most_sectors * highest_strength
 
 -- There is a minimum and a mark for each strength, and the products of a pass fit.
-pub record Passable (rest total : ℕ) (ss ms gone : List ℕ) : Type 0 where
+pub record Passable (rest total : ℕ) (ss ms : List ℕ) (gone : List Bool) : Type 0 where
   pub same : length ms ≡ length ss
   pub room : length ss ≤ length gone
   pub strong : (i : ℕ) → i < length ss → get_or ss i 0 ≤ highest_strength

@@ -1,4 +1,4 @@
-// Document 02, [10]: the passes in which sectors leave. A mark of 0 says that a sector is still there, as it is beyond the marks.
+// Document 02, [10]: the passes in which sectors leave. A mark says that a sector left; beyond the marks none did.
 #![tactic(auto)]
 
 ghost use Rattle.std.specs.Prelude.{◌≡◌, not, ℕ, length};
@@ -7,78 +7,70 @@ ghost use Rattle.rules.specs.Tests.{◌and◌};
 ghost use Rattle.rules.specs.Selection.{sum_of, count};
 ghost use Rattle.rules.specs.Allocation.{sharing, stayed};
 ghost use Rattle.sector_quota.specs.Accepted.{Accepted};
-ghost use Rattle.sector_passes.specs.Marks.{still_in, value_of, is_below, Summable, Passable};
+ghost use Rattle.sector_passes.specs.Marks.{still_in, marked_as, value_of, is_below, Summable, Passable};
 
 use limits::MOST_SECTORS;
 
-// The sum of the values of the sectors that are still there.
-pub fn sum_still(values: &[u64], gone: &[u8]) -> u64
+// The sum of the values whose mark is the one given.
+fn sum_marked(values: &[u64], gone: &[bool], mark: bool) -> u64
     requires { Summable values.now gone.now }
-    ensures { result ≡ sum_of (still_in gone.now) (value_of values.now) (length values.now) }
-{
-    let mut total: u64 = 0;
-    let mut i: usize = 0;
-    while i < values.len() {
-        if gone[i] == 0 {
-            total += values[i];
-        }
-        i += 1;
-    }
-    total
-}
-
-// The sum of the values of the sectors that left.
-pub fn sum_gone(values: &[u64], gone: &[u8]) -> u64
-    requires { Summable values.now gone.now }
-    ensures { result ≡ sum_of (λ i. not (still_in gone.now i)) (value_of values.now) (length values.now) }
+    ensures { result ≡ sum_of (marked_as mark gone.now) (value_of values.now) (length values.now) }
 {
     let mut sum: u64 = 0;
-    let mut i: usize = 0;
-    while i < values.len() {
-        if gone[i] != 0 {
-            sum += values[i];
+    for (i, value) in values.iter().enumerate() {
+        if gone[i] == mark {
+            sum += *value;
         }
-        i += 1;
     }
     sum
 }
 
+// The sum of the values of the sectors that are still there.
+pub fn sum_still(values: &[u64], gone: &[bool]) -> u64
+    requires { Summable values.now gone.now }
+    ensures { result ≡ sum_of (still_in gone.now) (value_of values.now) (length values.now) }
+{
+    sum_marked(values, gone, false)
+}
+
+// The sum of the values of the sectors that left.
+pub fn sum_gone(values: &[u64], gone: &[bool]) -> u64
+    requires { Summable values.now gone.now }
+    ensures { result ≡ sum_of (λ i. not (still_in gone.now i)) (value_of values.now) (length values.now) }
+{
+    sum_marked(values, gone, true)
+}
+
 // One pass: marks all whose quota is below their minimum, and answers how many they are.
-fn pass(rest: u64, total: u64, strengths: &[u64], minima: &[u64], gone: &mut [u8]) -> usize
+fn pass(rest: u64, total: u64, strengths: &[u64], minima: &[u64], gone: &mut [bool]) -> usize
     requires { Passable rest total strengths.now minima.now gone.old }
     ensures value { result ≡ count (λ i. still_in gone.old i and is_below rest total strengths.now minima.now i) (length strengths.now) }
     ensures by_index { (i : ℕ) → still_in gone.new i ≡ (still_in gone.old i and not (is_below rest total strengths.now minima.now i)) }
 {
     let mut leave: usize = 0;
-    let mut i: usize = 0;
-    while i < strengths.len() {
-        if gone[i] == 0 {
-            if rest * strengths[i] < minima[i] * total {
-                gone[i] = 1;
-                leave += 1;
-            }
+    for (i, strength) in strengths.iter().enumerate() {
+        if !gone[i] && rest * *strength < minima[i] * total {
+            gone[i] = true;
+            leave += 1;
         }
-        i += 1;
     }
     leave
 }
 
 // The passes, until none leaves: who has left.
-pub fn settle(interviews: u64, strengths: &[u64], minima: &[u64]) -> [u8; MOST_SECTORS]
+pub fn settle(interviews: u64, strengths: &[u64], minima: &[u64]) -> [bool; MOST_SECTORS]
     requires { Accepted (sharing interviews strengths.now minima.now) }
     ensures result_value { still_in result ≡ stayed (sharing interviews strengths.now minima.now) }
     ensures result_len { length result ≡ most_sectors }
 {
-    let mut gone = [0u8; MOST_SECTORS];
-    let mut k: usize = 0;
-    while k < strengths.len() {
+    let mut gone = [false; MOST_SECTORS];
+    for _k in 0..strengths.len() {
         let rest = interviews - sum_gone(minima, &gone);
         let total = sum_still(strengths, &gone);
         let leave = pass(rest, total, strengths, minima, &mut gone);
         if leave == 0 {
             return gone;
         }
-        k += 1;
     }
     gone
 }

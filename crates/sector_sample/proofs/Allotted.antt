@@ -30,16 +30,22 @@ unfolding one_more firsts
 not_more a still i h = and_off (still i) _ h
 
 -- the marks are those of the last pass, `given` is what the sectors that left have, and `total` the strengths left
-pub record Ready (a : Sharing) (gone : List ℕ) (given total : ℕ) : Type 0 where
+pub record Ready (a : Sharing) (gone : List Bool) (given total : ℕ) : Type 0 where
   pub ok : Accepted a
   pub full : length gone ≡ most_sectors
   pub settled : still_in gone ≡ stayed a
   pub minima_are : given ≡ sum_of (λ i. not (still_in gone i)) (minimum a) (length a.minima)
   pub strengths_are : total ≡ sum_of (still_in gone) (strength a) (sectors a)
 
-module _ (a : Sharing) (gone : List ℕ) (given total : ℕ) (ready : Ready a gone given total) where
+pub ready :
+    {a : Sharing} {gone : List Bool} {given total : ℕ} → Accepted a → length gone ≡ most_sectors → still_in gone ≡ stayed a
+    → given ≡ sum_of (λ i. not (still_in gone i)) (minimum a) (length a.minima) → total ≡ sum_of (still_in gone) (strength a) (sectors a)
+    → Ready a gone given total
+ready ok full settled given total = record { ok = ok; full = full; settled = settled; minima_are = given; strengths_are = total }
+
+module _ (a : Sharing) (gone : List Bool) (given total : ℕ) (known : Ready a gone given total) where
   abbrev ok : Accepted a
-  ok = ready.ok
+  ok = known.ok
 
   abbrev still : ℕ → Bool
   still = still_in gone
@@ -48,19 +54,19 @@ module _ (a : Sharing) (gone : List ℕ) (given total : ℕ) (ready : Ready a go
   rest = a.interviews - given
 
   done : Settled a still
-  done = subst (Settled a) (sym ready.settled) (stayed_settled a ok)
+  done = subst (Settled a) (sym known.settled) (stayed_settled a ok)
 
   rest_same : rest ≡ remaining a still
-  rest_same = rest_is a ok gone ready.full given total ready.minima_are ready.strengths_are
+  rest_same = rest_is a ok gone known.full given total known.minima_are known.strengths_are
 
   total_same : total ≡ strengths_left a still
-  total_same = total_is a ok gone ready.full given total ready.minima_are ready.strengths_are
+  total_same = total_is a ok gone known.full given total known.minima_are known.strengths_are
 
   -- ---- the division
   pub dividable : Dividable rest total a.strengths a.minima gone
   dividable = record {
     same = ok.same;
-    room = omega (arith, ready.full, ok.few);
+    room = omega (arith, known.full, ok.few);
     sectors = ok.few;
     some = omega (arith, total_same, total_some a ok still done);
     few = omega (arith, ok.most);
@@ -92,7 +98,7 @@ module _ (a : Sharing) (gone : List ℕ) (given total : ℕ) (ready : Ready a go
   -- ---- what is left to give
   module _ (ws : List ℕ) (w : ws ≡ in_places (sectors a) (whole_by rest total a.strengths gone)) where
     pub wholes_are : ws ≡ in_places (sectors a) (whole_part a (stayed a))
-    wholes_are = w ∙ ap (in_places (sectors a)) (wholes_same ∙ ap (whole_part a) ready.settled)
+    wholes_are = w ∙ ap (in_places (sectors a)) (wholes_same ∙ ap (whole_part a) known.settled)
 
     pub wholes_room : sectors a ≤ length ws
     wholes_room = omega (arith, ap length w, places_length (sectors a) (whole_by rest total a.strengths gone) ok.few, ok.few)
@@ -111,7 +117,7 @@ module _ (a : Sharing) (gone : List ℕ) (given total : ℕ) (ready : Ready a go
 
     pub wholes_summable : Summable (take (sectors a) ws) gone
     wholes_summable = record {
-      room = omega (arith, front_length, ready.full, ok.few);
+      room = omega (arith, front_length, known.full, ok.few);
       low = omega (
         arith,
         front_sum every,
@@ -132,7 +138,7 @@ module _ (a : Sharing) (gone : List ℕ) (given total : ℕ) (ready : Ready a go
       module _ (rs cs : List ℕ) (r : rs ≡ in_places (sectors a) (remainder_by rest total a.strengths gone))
           (c : cs ≡ in_places (sectors a) (count_by rest total a.strengths a.minima gone)) where
         pub remainders_are : rs ≡ in_places (sectors a) (remainder a (stayed a))
-        remainders_are = r ∙ ap (in_places (sectors a)) (remainders_same ∙ ap (remainder a) ready.settled)
+        remainders_are = r ∙ ap (in_places (sectors a)) (remainders_same ∙ ap (remainder a) known.settled)
 
         count_at : (i : ℕ) → i < sectors a → get_or cs i 0 ≡ cond (still i) (whole_part a still i) (minimum a i)
         count_at i l = ap (λ (xs : List ℕ). get_or xs i 0) c ∙ places_at (sectors a) _ i l ∙ first_count i
@@ -147,7 +153,7 @@ module _ (a : Sharing) (gone : List ℕ) (given total : ℕ) (ready : Ready a go
         givable = record {
           few = ok.few;
           keys = omega (arith, ap length r, places_length (sectors a) (remainder_by rest total a.strengths gone) ok.few, ok.few);
-          marks = omega (arith, ready.full, ok.few);
+          marks = omega (arith, known.full, ok.few);
           room = omega (arith, ap length c, places_length (sectors a) (count_by rest total a.strengths a.minima gone) ok.few, ok.few);
           enough = omega (arith, more_same, few_more a ok still done);
           low = count_low;
@@ -178,4 +184,4 @@ module _ (a : Sharing) (gone : List ℕ) (given total : ℕ) (ready : Ready a go
               (λ i h. by_order i (sectors a)
               (λ l. given_at i l ∙ sym (places_at (sectors a) (count_for a still) i l))
               (λ l. g.beyond i l ∙ ap (λ (xs : List ℕ). get_or xs i 0) c ∙ places_beyond (sectors a) _ i l ∙ sym (places_beyond (sectors a) (count_for a still) i l)))
-              ∙ ap (λ (f : ℕ → Bool). in_places (sectors a) (count_for a f)) ready.settled
+              ∙ ap (λ (f : ℕ → Bool). in_places (sectors a) (count_for a f)) known.settled

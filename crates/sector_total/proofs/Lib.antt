@@ -1,1 +1,2 @@
 pub mod Sectors
+pub mod Std

@@ -1,10 +1,10 @@
 // Document 01, "Total" and refusal 14; 001, formula 11: the index over sectors.
 #![tactic(auto)]
 
-ghost use Rattle.std.specs.Prelude.{◌≡◌, not, ◌<◌, ◌≤◌, ◌^◌, length, eqb};
-ghost use Rattle.rules.specs.Limits.{most_sectors, sector_scale};
-ghost use Rattle.rules.specs.Tests.{◌or◌};
-ghost use Rattle.rules.specs.Lists.{sum, products, any_of};
+ghost use Rattle.std.specs.Prelude.{◌≡◌, ◌<◌, ◌≤◌, ◌^◌, length};
+ghost use Rattle.rules.specs.Limits.{most_sectors};
+ghost use Rattle.std.specs.List.{list_any, sum_by};
+ghost use Rattle.rules.specs.Lists.{sum, products};
 ghost use Rattle.rules.specs.Chain.{bad_index};
 ghost use Rattle.rules.specs.Total.{bad_sectors, total_answer};
 ghost use Rattle.sector_total.specs.Answer.{total_from};
@@ -12,27 +12,18 @@ ghost use Rattle.sector_total.specs.Answer.{total_from};
 use limits::{MOST_SECTORS, SECTOR_SCALE, bad_index};
 use refusals::Refusal;
 
-#[derive(Drop)]
-pub enum TotalAnswer {
-    Total(u64),
-    Refused(Refusal),
+// The sum of the shares; so few cannot wrap.
+fn added(shares: &[u32]) -> u64
+    requires { length shares.now ≤ most_sectors }
+    ensures { result ≡ sum_by (λ share. share) shares.now }
+{
+    shares.iter().map(|share| u64::from(*share)).sum()
 }
 
-// Whether the shares do not add to 1, or some index is out of range. So few shares cannot wrap.
-fn bad_values(shares: &[u32], indices: &[u64]) -> bool
-    requires { (length indices.now ≡ length shares.now) × (length shares.now ≤ most_sectors) }
-    ensures { result ≡ (not (eqb (sum shares.now) sector_scale) or any_of bad_index indices.now) }
+fn out_of_range(indices: &[u64]) -> bool
+    ensures { result ≡ list_any bad_index indices.now }
 {
-    let mut added: u64 = 0;
-    let mut i: usize = 0;
-    while i < shares.len() {
-        if bad_index(indices[i]) {
-            return true;
-        }
-        added += shares[i] as u64;
-        i += 1;
-    }
-    added != SECTOR_SCALE
+    indices.iter().any(|index| bad_index(*index))
 }
 
 // 14: lists unequal, empty, too long, not adding to 1, or an index out of range.
@@ -42,13 +33,16 @@ fn bad_sectors(shares: &[u32], indices: &[u64]) -> bool
     if indices.len() != shares.len() {
         return true;
     }
-    if shares.len() == 0 {
+    if shares.is_empty() {
         return true;
     }
     if MOST_SECTORS < shares.len() {
         return true;
     }
-    bad_values(shares, indices)
+    if added(shares) != SECTOR_SCALE {
+        return true;
+    }
+    out_of_range(indices)
 }
 
 // The sum of share × index.
@@ -57,19 +51,18 @@ fn weighted(shares: &[u32], indices: &[u64]) -> u64
     ensures { result ≡ sum (products shares.now indices.now) }
 {
     let mut acc: u64 = 0;
-    let mut i: usize = 0;
-    while i < shares.len() {
-        acc += (shares[i] as u64) * indices[i];
-        i += 1;
+    for (share, index) in shares.iter().zip(indices) {
+        acc += u64::from(*share) * *index;
     }
     acc
 }
 
-pub fn total(shares: &[u32], indices: &[u64]) -> TotalAnswer
+// 001, formula 11, or refusal 14.
+pub fn total(shares: &[u32], indices: &[u64]) -> Result<u64, Refusal>
     ensures { total_from result ≡ total_answer shares.now indices.now }
 {
     if bad_sectors(shares, indices) {
-        return TotalAnswer::Refused(Refusal::Sectors);
+        return Err(Refusal::Sectors);
     }
-    TotalAnswer::Total(weighted(shares, indices) / SECTOR_SCALE)
+    Ok(weighted(shares, indices) / SECTOR_SCALE)
 }

@@ -1,6 +1,6 @@
 -- The word at the front of a part (document 02, [3]), and a number of eight bytes as two such words.
 use Prim.Native.Nat.{ℕ, ◌+◌, ◌*◌, ◌-◌, ◌≤◌, ◌<◌}
-use mathlib.Core.Path.{◌≡◌, sym, ◌∙◌}
+use mathlib.Core.Path.{◌≡◌, refl, sym, ap, ◌∙◌}
 use mathlib.Core.List.{List}
 use lib.ListN.{length, take, drop, length-take, length-drop}
 use native.Mathlib.Omega.{arith}
@@ -8,7 +8,12 @@ use borrow.Author.Tests.{lt-ltb, le-ltb}
 use Rattle.rules.specs.Refusals.{Judged, refuse}
 use Rattle.rules.specs.Stream.{big_endian}
 use Rattle.rules.specs.Word.{word_refusal, word_of}
-use Rattle.rules.proofs.Refusals.{given_tells}
+use Rattle.std.proofs.Common.{Result, Ok, Err}
+use Rattle.refusals.specs.declared.Refusal.{Refusal}
+use Rattle.refusals.specs.Number.{number_of}
+use Rattle.refusals.proofs.Numbers.{not_none}
+use Rattle.stream_bytes.specs.Answer.{answer_from}
+use Rattle.rules.proofs.Refusals.{given_tells, refused_tells}
 use Rattle.stream_bytes.proofs.Joined.{join, at_front, at_most}
 
 pub word_refused : (part : List ℕ) → length part < 4 → Judged.refused 17 ≡ word_of part
@@ -39,3 +44,8 @@ two_such_words s i upper lower first second =
     let high = word_tells (drop i s) upper first ∙ at_front 4 s i in
     let low = word_tells (drop (i + 4) s) lower second ∙ at_front 4 s (i + 4) in
     omega (arith, high, low, join 4 4 s i)
+
+-- an answer that no refusal stops is the word
+pub is_found : (r : Result ℕ Refusal) (word : ℕ) → answer_from r ≡ Judged.given word → r ≡ Ok word
+is_found (Ok n) word e = ap Ok (given_tells 0 word n e).1
+is_found (Err why) word e = absurd (not_none why 0 (refused_tells 0 (number_of why) word e) refl)

@@ -6,12 +6,13 @@ ghost use Rattle.std.specs.Prelude.{◌≡◌};
 ghost use Rattle.rules.specs.Stream.{reading, rest_of};
 ghost use Rattle.stream_read.specs.Value.{reading_from};
 
-use stream_read::Reading;
+use refusals::Refusal;
+use stream_read::Command;
 
 // What stands at the front of a part of the stream, and the unread part after it.
 #[derive(Drop)]
 pub struct Front<'a> {
-    pub reading: Reading,
+    pub reading: Result<Option<Command>, Refusal>,
     pub rest: &'a [u8],
 }
 
@@ -36,7 +37,7 @@ pub fn read_front<'a>(s: &'a [u8]) -> Front<'a>
 }
 
 // The reading alone.
-pub fn reading_at<'a>(s: &'a [u8]) -> Reading
+pub fn reading_at<'a>(s: &'a [u8]) -> Result<Option<Command>, Refusal>
     ensures { reading_from result ≡ reading s.now }
 {
     let both = read_front(s);

@@ -13,13 +13,23 @@ pub fn put_byte(out: &mut [u8], at: usize, b: u8) -> usize
     text_decimal::put_byte(out, at, b)
 }
 
+// Lays bytes from the place at on, and answers the place after them.
+fn put_bytes(out: &mut [u8], at: usize, bytes: &[u8]) -> usize
+    requires { at + length bytes.now ≤ length out.old }
+    ensures { Put at bytes.now out.old out.new result }
+{
+    let end = at + bytes.len();
+    out[at..end].copy_from_slice(bytes);
+    end
+}
+
 // Lays two bytes, the first the highest.
 pub fn put_two_bytes(out: &mut [u8], at: usize, x: u16) -> usize
     requires { at + 2 ≤ length out.old }
     ensures { Put at (bytes_with 2 x) out.old out.new result }
 {
-    let next = put_byte(out, at, (x / 256) as u8);
-    put_byte(out, next, (x % 256) as u8)
+    let two = x.to_be_bytes();
+    put_bytes(out, at, &two)
 }
 
 // Lays a word of four bytes.
@@ -27,8 +37,8 @@ pub fn put_word(out: &mut [u8], at: usize, x: u32) -> usize
     requires { at + 4 ≤ length out.old }
     ensures { Put at (bytes_with 4 x) out.old out.new result }
 {
-    let next = put_two_bytes(out, at, (x / 65536) as u16);
-    put_two_bytes(out, next, (x % 65536) as u16)
+    let four = x.to_be_bytes();
+    put_bytes(out, at, &four)
 }
 
 // Lays two words, the upper first.
@@ -36,6 +46,6 @@ pub fn put_two_words(out: &mut [u8], at: usize, x: u64) -> usize
     requires { at + 8 ≤ length out.old }
     ensures { Put at (bytes_with 8 x) out.old out.new result }
 {
-    let next = put_word(out, at, (x / 4294967296) as u32);
-    put_word(out, next, (x % 4294967296) as u32)
+    let eight = x.to_be_bytes();
+    put_bytes(out, at, &eight)
 }

@@ -12,7 +12,9 @@ use borrow.Author.Tests.{ltb-false, eqb-false}
 use Rattle.rules.specs.Refusals.{Judged, judged}
 use Rattle.rules.proofs.Refusals.{then_none, refuse_none}
 use Rattle.rules.specs.Stream.{Command, Front, width_of, command_of, reading_refusal, reading, rest_by, rest_of}
-use Rattle.stream_read.specs.declared.Reading.{Reading}
+use Rattle.std.proofs.Common.{Option, Result}
+use Rattle.refusals.specs.declared.Refusal.{Refusal}
+use Rattle.stream_read.specs.declared.Command as code
 use Rattle.stream_read.specs.Value.{reading_from, taken_by, taken_of}
 
 -- the part from n on, as `&s[n..]` gives it
@@ -51,7 +53,7 @@ taken_within s = go (reading s) refl
     go (Judged.given (Front.command c)) e = within s c e
 
 -- the bytes that the code's reading takes
-pub taken_told : (s : List ℕ) (r read : Reading) → r ≡ read → reading_from r ≡ reading s
+pub taken_told : (s : List ℕ) (r read : Result (Option code.Command) Refusal) → r ≡ read → reading_from r ≡ reading s
     → taken_by (reading_from read) (width_of (get_or s 0 0)) ≡ taken_of s
 unfolding taken_of
 taken_told s r read e told = ap (λ (f : Judged Front). taken_by f (width_of (get_or s 0 0))) (sym (ap reading_from e) ∙ told)

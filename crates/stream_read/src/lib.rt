@@ -4,7 +4,7 @@
 
 ghost use Rattle.std.specs.Prelude.{◌≡◌, ◌≤◌, length};
 ghost use Rattle.rules.specs.Stream.{width_of, command_of, reading};
-ghost use Rattle.stream_read.specs.Value.{command_from, reading_from, taken_of};
+ghost use Rattle.stream_read.specs.Value.{byte_of, Reads, command_from, reading_from, taken_of};
 
 use limits::MOST_STREAM;
 use refusals::Refusal;
@@ -36,80 +36,111 @@ pub enum Command {
     Close,
 }
 
-// What stands at the front of a part of the stream.
-#[derive(Drop)]
-pub enum Reading {
-    Found(Command),
-    Ended,
-    Refused(Refusal),
+// What a command byte asks for.
+#[derive(Clone, Copy, Debug, PartialEq, Eq)]
+pub enum Kind {
+    Unit = 1,
+    Draw = 2,
+    Share = 3,
+    Relative = 4,
+    Open = 5,
+    Quarter = 6,
+    Close = 7,
 }
 
-// The bytes of a command, its command byte k among them.
-pub fn width(k: u8) -> usize
-    ensures { result ≡ width_of k }
-{
-    match k {
-        1 => 17,
-        2 => 6,
-        3 => 4,
-        4 => 6,
-        5 => 9,
-        _ => 1,
+impl TryFrom<u8> for Kind {
+    type Error = Refusal;
+
+    ghost try_from_gives = { Reads };
+
+    fn try_from(k: u8) -> Result<Kind, Refusal> {
+        match k {
+            1 => Ok(Kind::Unit),
+            2 => Ok(Kind::Draw),
+            3 => Ok(Kind::Share),
+            4 => Ok(Kind::Relative),
+            5 => Ok(Kind::Open),
+            6 => Ok(Kind::Quarter),
+            7 => Ok(Kind::Close),
+            _ => Err(Refusal::UnknownCommand),
+        }
     }
 }
 
-// The command with the command byte k, its operands after it in s.
-fn operands(s: &[u8], k: u8) -> Command
-    requires { width_of k ≤ length s.now }
-    ensures { command_from result ≡ command_of k s.now }
+impl Kind {
+    // The bytes of such a command, its command byte among them.
+    #[tactic(auto, unfolding(rules::specs::Stream::width_of, rules::specs::Stream::operands_of))]
+    pub fn width(self) -> usize
+        ensures { result ≡ width_of (byte_of self) }
+    {
+        match self {
+            Kind::Unit => 17,
+            Kind::Draw => 6,
+            Kind::Share => 4,
+            Kind::Relative => 6,
+            Kind::Open => 9,
+            Kind::Quarter => 1,
+            Kind::Close => 1,
+        }
+    }
+}
+
+// The bytes of the command with the command byte k; a byte that asks for none stands alone.
+pub fn width(k: u8) -> usize
+    ensures { result ≡ width_of k }
 {
-    match k {
-        1 => Command::Unit {
+    match Kind::try_from(k) {
+        Ok(kind) => kind.width(),
+        Err(_) => 1,
+    }
+}
+
+// The command of a kind, its operands after its command byte in s.
+fn operands(s: &[u8], kind: Kind) -> Command
+    requires { width_of (byte_of kind) ≤ length s.now }
+    ensures { command_from result ≡ command_of (byte_of kind) s.now }
+{
+    match kind {
+        Kind::Unit => Command::Unit {
             number: word_at(s, 1),
             turnover: two_words(s, 5),
             random: word_at(s, 13),
         },
-        2 => Command::Draw {
+        Kind::Draw => Command::Draw {
             size: s[1],
             start: word_at(s, 2),
         },
-        3 => Command::Share {
+        Kind::Share => Command::Share {
             place: s[1],
             share: two_bytes(s, 2),
         },
-        4 => Command::Relative {
+        Kind::Relative => Command::Relative {
             place: s[1],
             relative: word_at(s, 2),
         },
-        5 => Command::Open {
+        Kind::Open => Command::Open {
             start: two_words(s, 1),
         },
-        6 => Command::Quarter,
-        _ => Command::Close,
+        Kind::Quarter => Command::Quarter,
+        Kind::Close => Command::Close,
     }
 }
 
-// The command at the front of s, the end, or a refusal.
-pub fn read(s: &[u8]) -> Reading
+// The command at the front of s, none at its end, or a refusal.
+pub fn read(s: &[u8]) -> Result<Option<Command>, Refusal>
     ensures { reading_from result ≡ reading s.now }
 {
     if MOST_STREAM < s.len() {
-        return Reading::Refused(Refusal::StreamLength);
+        return Err(Refusal::StreamLength);
     }
-    if s.len() == 0 {
-        return Reading::Ended;
+    if s.is_empty() {
+        return Ok(None);
     }
-    let k = s[0];
-    if k < 1 {
-        return Reading::Refused(Refusal::UnknownCommand);
+    let kind = Kind::try_from(s[0])?;
+    if s.len() < kind.width() {
+        return Err(Refusal::CutShort);
     }
-    if 7 < k {
-        return Reading::Refused(Refusal::UnknownCommand);
-    }
-    if s.len() < width(k) {
-        return Reading::Refused(Refusal::CutShort);
-    }
-    Reading::Found(operands(s, k))
+    Ok(Some(operands(s, kind)))
 }
 
 // The bytes that `read` takes from the front of s.
@@ -117,8 +148,8 @@ pub fn taken(s: &[u8]) -> usize
     ensures { result ≡ taken_of s.now }
 {
     match read(s) {
-        Reading::Found(_) => width(s[0]),
-        Reading::Ended => 0,
-        Reading::Refused(_) => 0,
+        Ok(Some(_)) => width(s[0]),
+        Ok(None) => 0,
+        Err(_) => 0,
     }
 }

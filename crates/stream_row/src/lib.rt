@@ -3,10 +3,10 @@
 
 ghost use Rattle.std.specs.Prelude.{◌≡◌};
 ghost use Rattle.rules.specs.Writing.{row, row_of};
-ghost use Rattle.stream_read.specs.Value.{command_from};
+ghost use Rattle.stream_read.specs.Value.{byte_of, command_from};
 ghost use Rattle.stream_row.specs.Value.{row_from};
 
-use stream_read::Command;
+use stream_read::{Command, Kind};
 
 // A command byte; a size or a place; a share; a number, a start or a relative; a random number; a turnover or a start index.
 #[derive(Drop)]
@@ -19,35 +19,59 @@ pub struct Row {
     pub amount: u64,
 }
 
-// A row from its six values.
-pub fn row_with(kind: u8, size: u8, share: u16, number: u32, random: u32, amount: u64) -> Row
-    ensures { row_from result ≡ row kind size share number random amount }
-{
-    Row {
-        kind: kind,
-        size: size,
-        share: share,
-        number: number,
-        random: random,
-        amount: amount,
+impl Row {
+    // The row of a kind, every operand 0.
+    fn bare(kind: Kind) -> Row
+        ensures { row_from result ≡ row (byte_of kind) 0 0 0 0 0 }
+    {
+        Row {
+            kind: kind as u8,
+            size: 0,
+            share: 0,
+            number: 0,
+            random: 0,
+            amount: 0,
+        }
     }
 }
 
 // A command as a row, absent operands 0.
-pub fn row_of(command: Command) -> Row
-    ensures { row_from result ≡ row_of (command_from command) }
-{
-    match command {
-        Command::Unit {
-            number,
-            turnover,
-            random,
-        } => row_with(1, 0, 0, number, random, turnover),
-        Command::Draw { size, start } => row_with(2, size, 0, start, 0, 0),
-        Command::Share { place, share } => row_with(3, place, share, 0, 0, 0),
-        Command::Relative { place, relative } => row_with(4, place, 0, relative, 0, 0),
-        Command::Open { start } => row_with(5, 0, 0, 0, 0, start),
-        Command::Quarter => row_with(6, 0, 0, 0, 0, 0),
-        Command::Close => row_with(7, 0, 0, 0, 0, 0),
+impl From<Command> for Row {
+    ghost from_gives = { λ command result. row_from result ≡ row_of (command_from command) };
+
+    fn from(command: Command) -> Row {
+        match command {
+            Command::Unit {
+                number,
+                turnover,
+                random,
+            } => Row {
+                number,
+                random,
+                amount: turnover,
+                ..Row::bare(Kind::Unit)
+            },
+            Command::Draw { size, start } => Row {
+                size,
+                number: start,
+                ..Row::bare(Kind::Draw)
+            },
+            Command::Share { place, share } => Row {
+                size: place,
+                share,
+                ..Row::bare(Kind::Share)
+            },
+            Command::Relative { place, relative } => Row {
+                size: place,
+                number: relative,
+                ..Row::bare(Kind::Relative)
+            },
+            Command::Open { start } => Row {
+                amount: start,
+                ..Row::bare(Kind::Open)
+            },
+            Command::Quarter => Row::bare(Kind::Quarter),
+            Command::Close => Row::bare(Kind::Close),
+        }
     }
 }

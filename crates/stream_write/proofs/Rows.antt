@@ -19,6 +19,7 @@ use Rattle.rules.proofs.Lists.{drop_step, drop_end}
 use Rattle.rules.proofs.Refusals.{then_none, refuse_none}
 use Rattle.text_decimal.specs.Put.{Put}
 use Rattle.text_decimal.proofs.Laying.{in_turn, says}
+use Rattle.stream_write.specs.Answer.{blank}
 use Rattle.stream_put.proofs.Halves.{one_byte, bytes_length}
 
 -- ---- lengths
@@ -86,9 +87,6 @@ stream_append [] b = refl
 stream_append (r ∷ a) b = ap (λ (l : List ℕ). command_bytes r ++ l) (stream_append a b) ∙ sym (append_assoc (command_bytes r) (stream_of a) (stream_of b))
 
 -- a row that stands nowhere
-abbrev pub blank : Row
-blank = row 0 0 0 0 0 0
-
 module _ (rs : List Row) (i : ℕ) where
   pub next_row : i < length rs → stream_of (take (i + 1) rs) ≡ stream_of (take i rs) ++ command_bytes (get_or rs i blank)
   next_row h =

@@ -2,54 +2,67 @@
 // so that no operand can be too large.
 #![tactic(auto)]
 
-ghost use Rattle.std.specs.Prelude.{◌≡◌, ◌++◌, map, ◌+◌, ◌≤◌, min, length};
+ghost use Rattle.std.specs.Prelude.{◌≡◌, ◌++◌, map, ◌+◌, ◌<◌, ◌≤◌, min, not, length, get_or, eqb};
+ghost use Rattle.std.specs.List.{list_any};
 ghost use Rattle.rules.specs.Limits.{most_stream};
 ghost use Rattle.rules.specs.Tests.{outside};
-ghost use Rattle.rules.specs.Lists.{sum, any_of};
+ghost use Rattle.rules.specs.Lists.{sum};
 ghost use Rattle.rules.specs.Stream.{width_of};
-ghost use Rattle.rules.specs.Writing.{bytes_with, command_bytes, differ, lists, stream_in, write_refusal, write_answer, write_bytes};
-ghost use Rattle.refusals.specs.Number.{verdict_of};
+ghost use Rattle.rules.specs.Writing.{bytes_with, command_bytes, rows_in, stream_in, write_refusal, write_answer, write_bytes};
+ghost use Rattle.refusals.specs.Number.{refusal_of};
 ghost use Rattle.text_decimal.specs.Put.{Put};
 ghost use Rattle.stream_row.specs.Value.{row_from};
-ghost use Rattle.stream_write.specs.Answer.{answer_from};
+ghost use Rattle.stream_write.specs.Answer.{answer_from, lists_of, lengths_of, OneLength, blank};
 
 use limits::MOST_STREAM;
-use refusals::{Refusal, Verdict};
+use refusals::Refusal;
 use stream_put::{put_byte, put_two_bytes, put_two_words, put_word};
-use stream_read::width;
+use stream_read::{Kind, width};
 use stream_row::Row;
 
-// The length of what was written.
-#[derive(Drop)]
-pub enum Answer {
-    Bytes(usize),
-    Refused(Refusal),
+// The six lists of a writer, one for each column as the C interface lends them: command bytes, and the operands.
+#[derive(Clone, Copy)]
+pub struct Lists<'a> {
+    pub kinds: &'a [u8],
+    pub sizes: &'a [u8],
+    pub shares: &'a [u16],
+    pub numbers: &'a [u32],
+    pub randoms: &'a [u32],
+    pub amounts: &'a [u64],
 }
 
-// Whether one of five lengths is not n.
-fn unequal(
-    n: usize,
-    sizes: usize,
-    shares: usize,
-    numbers: usize,
-    randoms: usize,
-    amounts: usize,
-) -> bool
-    ensures { result ≡ differ n sizes shares numbers randoms amounts }
-{
-    if sizes != n {
-        return true;
+impl<'a> Lists<'a> {
+    // Whether one of the lists is not as long as the first.
+    fn are_unequal(&self) -> bool
+        ensures { result ≡ list_any
+            (λ n. not (eqb n (length self.now.kinds.now)))
+            (lengths_of (lists_of self.now)) }
+    {
+        let n = self.kinds.len();
+        let lengths = [
+            self.sizes.len(),
+            self.shares.len(),
+            self.numbers.len(),
+            self.randoms.len(),
+            self.amounts.len(),
+        ];
+        lengths.iter().any(|length| *length != n)
     }
-    if shares != n {
-        return true;
+
+    // The command at place i.
+    fn row(&self, i: usize) -> Row
+        requires { OneLength (lists_of self.now) × (i < length self.now.kinds.now) }
+        ensures { row_from result ≡ get_or (rows_in (lists_of self.now)) i blank }
+    {
+        Row {
+            kind: self.kinds[i],
+            size: self.sizes[i],
+            share: self.shares[i],
+            number: self.numbers[i],
+            random: self.randoms[i],
+            amount: self.amounts[i],
+        }
     }
-    if numbers != n {
-        return true;
-    }
-    if randoms != n {
-        return true;
-    }
-    amounts != n
 }
 
 // The bytes that the commands need, counted no further than one over the limit.
@@ -57,70 +70,46 @@ fn needed(kinds: &[u8]) -> usize
     ensures { result ≡ min (sum (map width_of kinds.now)) (most_stream + 1) }
 {
     let mut bytes: usize = 0;
-    let mut i: usize = 0;
-    while i < kinds.len() {
-        bytes += width(kinds[i]);
+    for kind in kinds {
+        bytes += width(*kind);
         if MOST_STREAM < bytes {
             return MOST_STREAM + 1;
         }
-        i += 1;
     }
     bytes
 }
 
 // Whether a command byte is not 1 to 7.
-fn unknown(kinds: &[u8]) -> bool
-    ensures { result ≡ any_of (outside 1 7) kinds.now }
+fn is_unknown(k: u8) -> bool
+    ensures { result ≡ outside 1 7 k }
 {
-    let mut i: usize = 0;
-    while i < kinds.len() {
-        let k = kinds[i];
-        if k < 1 {
-            return true;
-        }
-        if 7 < k {
-            return true;
-        }
-        i += 1;
-    }
-    false
+    Kind::try_from(k).is_err()
+}
+
+fn has_unknown(kinds: &[u8]) -> bool
+    ensures { result ≡ list_any (outside 1 7) kinds.now }
+{
+    kinds.iter().any(|k| is_unknown(*k))
 }
 
 // 27 for unequal lists, 15, 16, and 27 for a short buffer.
-fn judge(
-    kinds: &[u8],
-    sizes: &[u8],
-    shares: &[u16],
-    numbers: &[u32],
-    randoms: &[u32],
-    amounts: &[u64],
-    out: &[u8],
-) -> Verdict
-    ensures { verdict_of result ≡ write_refusal
-        (lists kinds.now sizes.now shares.now numbers.now randoms.now amounts.now)
-        out.now }
+fn judge(lists: &Lists, out: &[u8]) -> Result<(), Refusal>
+    ensures { refusal_of result ≡ write_refusal (lists_of lists.now) out.now }
 {
-    if unequal(
-        kinds.len(),
-        sizes.len(),
-        shares.len(),
-        numbers.len(),
-        randoms.len(),
-        amounts.len(),
-    ) {
-        return Verdict::Refused(Refusal::Writing);
+    if lists.are_unequal() {
+        return Err(Refusal::Writing);
     }
-    let bytes = needed(kinds);
+    let bytes = needed(lists.kinds);
     if MOST_STREAM < bytes {
-        return Verdict::Refused(Refusal::StreamLength);
+        return Err(Refusal::StreamLength);
     }
-    if unknown(kinds) {
-        return Verdict::Refused(Refusal::UnknownCommand);
+    if has_unknown(lists.kinds) {
+        return Err(Refusal::UnknownCommand);
     }
     if out.len() < bytes {
-        return Verdict::Refused(Refusal::Writing);
+        return Err(Refusal::Writing);
     }
-    Verdict::Accepted
+    Ok(())
 }
 
 // Lays the operands of a unit, and answers the place after them.
@@ -169,60 +158,22 @@ fn put_command(out: &mut [u8], at: usize, row: Row) -> usize
 }
 
 // Lays the commands of lists that no refusal stops at the front of the buffer, and answers the bytes laid.
-fn put_all(
-    kinds: &[u8],
-    sizes: &[u8],
-    shares: &[u16],
-    numbers: &[u32],
-    randoms: &[u32],
-    amounts: &[u64],
-    out: &mut [u8],
-) -> usize
-    requires { write_refusal (lists kinds.now sizes.now shares.now numbers.now randoms.now amounts.now) out.old ≡ 0 }
-    ensures { Put 0
-        (stream_in (lists kinds.now sizes.now shares.now numbers.now randoms.now amounts.now))
-        out.old out.new result }
+fn put_all(lists: &Lists, out: &mut [u8]) -> usize
+    requires { write_refusal (lists_of lists.now) out.old ≡ 0 }
+    ensures { Put 0 (stream_in (lists_of lists.now)) out.old out.new result }
 {
     let mut at: usize = 0;
-    let mut i: usize = 0;
-    while i < kinds.len() {
-        let row = Row {
-            kind: kinds[i],
-            size: sizes[i],
-            share: shares[i],
-            number: numbers[i],
-            random: randoms[i],
-            amount: amounts[i],
-        };
-        at = put_command(out, at, row);
-        i += 1;
+    for i in 0..lists.kinds.len() {
+        at = put_command(out, at, lists.row(i));
     }
     at
 }
 
 // Writes the stream of a list of commands at the front of the buffer; all is judged before a byte is written.
-pub fn write(
-    kinds: &[u8],
-    sizes: &[u8],
-    shares: &[u16],
-    numbers: &[u32],
-    randoms: &[u32],
-    amounts: &[u64],
-    out: &mut [u8],
-) -> Answer
-    ensures result_value { answer_from result ≡ write_answer
-        (lists kinds.now sizes.now shares.now numbers.now randoms.now amounts.now)
-        out.old }
-    ensures out_after { out.new ≡ write_bytes
-        (lists kinds.now sizes.now shares.now numbers.now randoms.now amounts.now)
-        out.old }
+pub fn write(lists: &Lists, out: &mut [u8]) -> Result<usize, Refusal>
+    ensures result_value { answer_from result ≡ write_answer (lists_of lists.now) out.old }
+    ensures out_after { out.new ≡ write_bytes (lists_of lists.now) out.old }
 {
-    let verdict = judge(kinds, sizes, shares, numbers, randoms, amounts, out);
-    match verdict {
-        Verdict::Refused(why) => Answer::Refused(why),
-        Verdict::Accepted => {
-            let bytes = put_all(kinds, sizes, shares, numbers, randoms, amounts, out);
-            Answer::Bytes(bytes)
-        }
-    }
+    judge(lists, out)?;
+    Ok(put_all(lists, out))
 }

@@ -1,4 +1,5 @@
 -- After i turns the first i sectors stand in the three lists (`Laid`).
+use mathlib.Core.Path.{refl}
 use native.Mathlib.Omega.{arith}
 use Rattle.sector_passes.specs.Marks.{still_in}
 use Rattle.sector_divide.proofs.Laid.{laid_none, laid_more, laid_all}
@@ -8,9 +9,9 @@ pub loop-i-init : goal.loop-i-init
 loop-i-init c = record {
   most = omega arith;
   asked = c.requires;
-  count = laid_none _ _ _ c.blank-counts.ensures;
-  whole = laid_none _ _ _ c.blank-wholes.ensures;
-  remainder = laid_none _ _ _ c.blank-remainders.ensures;
+  count = laid_none _ _ _ refl;
+  whole = laid_none _ _ _ refl;
+  remainder = laid_none _ _ _ refl;
 }
 
 pub loop-i-preserved : goal.loop-i-preserved
@@ -22,9 +23,9 @@ loop-i-preserved c =
     record {
       most = omega (arith, more);
       asked = w.asked;
-      count = laid_more _ _ few _ _ w.count _ more c.quota-p.ensures.count_value;
-      whole = laid_more _ _ few _ _ w.whole _ more c.quota-p.ensures.whole_value;
-      remainder = laid_more _ _ few _ _ w.remainder _ more c.quota-p.ensures.remainder_value;
+      count = laid_more _ _ few _ _ w.count _ more c.quota-part.ensures.count_value;
+      whole = laid_more _ _ few _ _ w.whole _ more c.quota-part.ensures.whole_value;
+      remainder = laid_more _ _ few _ _ w.remainder _ more c.quota-part.ensures.remainder_value;
     }
 
 pub returns : goal.returns

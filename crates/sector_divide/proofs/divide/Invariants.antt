@@ -1,12 +1,13 @@
 -- After i turns the first i sectors stand in the three lists (`Laid`).
+use mathlib.Core.Bool.{Bool}
 use mathlib.Core.List.{List}
-use Prim.Native.Nat.{ℕ, ◌-◌, ◌≤◌}
+use Prim.Native.Nat.{ℕ, ◌≤◌}
 use lib.ListN.{length}
 use Rattle.sector_divide.specs.Quotas.{count_by, whole_by, remainder_by, Dividable}
 use Rattle.sector_divide.proofs.Laid.{Laid}
 use Rattle.sector_divide.proofs.divide.Given as goal
 
-pub record Divided (rest total : ℕ) (ss ms gone counts wholes remainders : List ℕ) (i : ℕ) : Type 0 where
+pub record Divided (rest total : ℕ) (ss ms : List ℕ) (gone : List Bool) (counts wholes remainders : List ℕ) (i : ℕ) : Type 0 where
   pub most : i ≤ length ss
   pub asked : Dividable rest total ss ms gone
   pub count : Laid (length ss) (count_by rest total ss ms gone) i counts
@@ -15,6 +16,3 @@ pub record Divided (rest total : ℕ) (ss ms gone counts wholes remainders : Lis
 
 abbrev pub invariant-loop-i : goal.invariant-loop-i
 invariant-loop-i l = Divided l.rest l.total l.strengths l.minima l.gone l.counts l.wholes l.remainders l.i
-
-abbrev pub decreases-loop-i : goal.decreases-loop-i
-decreases-loop-i l = length l.strengths - l.i

@@ -7,15 +7,16 @@ use Rattle.rules.specs.Lists.{sum}
 use Rattle.rules.proofs.Lists.{sum_step, sum_end}
 use Rattle.sector_judge.proofs.exceed.Goals as goal
 
-pub returns-then-left-minima : goal.returns-then-left-minima
-returns-then-left-minima c = let step = sum_step c.args.minima.now c.loop-i.i c.loop-i-test.true in
-    let over : c.args.interviews < sum c.args.minima.now = omega (arith, step, c.loop-i.invariant.1, c.if-left-minima.true) in
+pub returns-in_default : goal.returns-in_default
+returns-in_default c =
+    let step = sum_step c.args.minima.now c.loop-minimum.minimum-index c.loop-minimum-test.true in
+    let over : c.args.interviews < sum c.args.minima.now = grind (arith, step, c.loop-minimum.invariant, c.in_default.ensures) in
     sym (lt-ltb _ _ over)
 
-pub loop-i-preserved : goal.loop-i-preserved
-loop-i-preserved c = let step = sum_step c.args.minima.now c.loop-i.i c.loop-i-test.true in
-    (omega (arith, c.loop-i-test.true), omega (arith, step, c.loop-i.invariant.1, c.if-left-minima.false))
+pub loop-minimum-preserved : goal.loop-minimum-preserved
+loop-minimum-preserved c = omega (arith, sum_step c.args.minima.now c.loop-minimum.minimum-index c.loop-minimum-test.true, c.in-Some.ensures)
 
 pub returns : goal.returns
-returns c = let within : sum c.args.minima.now ≤ c.args.interviews = omega (arith, sum_end c.args.minima.now c.loop-i.i c.loop-i-test.false, c.loop-i.invariant.1) in
+returns c =
+    let within : sum c.args.minima.now ≤ c.args.interviews = omega (arith, sum_end c.args.minima.now c.loop-minimum.minimum-index c.loop-minimum-test.false, c.loop-minimum.invariant) in
     sym (le-ltb _ _ within)

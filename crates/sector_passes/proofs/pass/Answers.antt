@@ -8,7 +8,7 @@ use lib.ListN.{length, length-set}
 use Rattle.sector_passes.specs.Marks.{still_in, is_below}
 use Rattle.sector_passes.proofs.Passed.{Passed, passed_none, passed_same, passed_all, turn_gone, turn_stays, turn_leaves}
 use Rattle.sector_passes.proofs.Settling.{beyond_below}
-use Rattle.sector_passes.proofs.pass.Goals.{then-gone-i-eq0+then-rest-strengths, then-gone-i-eq0+else-rest-strengths, else-gone-i-eq0}
+use Rattle.sector_passes.proofs.pass.Goals.{then-not-gone-i+then-rest-strength, else-not-gone-i, else-not-gone-i-via-then-not-gone-i+else-rest-strength, else-not-gone-i-via-else-not-gone-i}
 use Rattle.sector_passes.proofs.pass.Goals as goal
 
 pub loop-i-init : goal.loop-i-init
@@ -22,26 +22,22 @@ loop-i-preserved c =
     let at = c.loop-i in
     let l = c.loop-i-test.true in
     let room : at.i < length at.gone = omega (arith, l, at.invariant.same, c.requires.room) in
-    elim c.if-gone-i-eq0.branch [
-      | then-gone-i-eq0+then-rest-strengths w ↦ record {
+    elim c.if-not-gone-i.branch [
+      | then-not-gone-i+then-rest-strength w ↦ record {
         most = omega (arith, l);
         few = omega (arith, w.leave-is, at.invariant.few);
         same = ap length w.gone-is ∙ simp length-set at.invariant.same;
         marks = passed_same still below _ _ _ _ _ w.gone-is w.leave-is
-            (turn_leaves still below _ _ _ at.invariant.marks w.if-gone-i-eq0.true (lt-ltb _ _ w.if-rest-strengths.true) room);
+            (turn_leaves still below _ _ _ at.invariant.marks w.if-not-gone-i.true (lt-ltb _ _ w.if-rest-strength.true) room);
       }
-      | then-gone-i-eq0+else-rest-strengths w ↦ record {
+      | else-not-gone-i w ↦ record {
         most = omega (arith, l);
         few = omega (arith, w.leave-is, at.invariant.few);
         same = ap length w.gone-is ∙ at.invariant.same;
-        marks = passed_same still below _ _ _ _ _ w.gone-is w.leave-is
-            (turn_stays still below _ _ _ at.invariant.marks w.if-gone-i-eq0.true (le-ltb _ _ w.if-rest-strengths.false));
-      }
-      | else-gone-i-eq0 w ↦ record {
-        most = omega (arith, l);
-        few = omega (arith, w.leave-is, at.invariant.few);
-        same = ap length w.gone-is ∙ at.invariant.same;
-        marks = passed_same still below _ _ _ _ _ w.gone-is w.leave-is (turn_gone still below _ _ _ at.invariant.marks w.if-gone-i-eq0.false);
+        marks = passed_same still below _ _ _ _ _ w.gone-is w.leave-is (elim w.else-not-gone-i.branch [
+          | else-not-gone-i-via-then-not-gone-i+else-rest-strength v ↦ turn_stays still below _ _ _ at.invariant.marks v.if-not-gone-i.true (le-ltb _ _ v.if-rest-strength.false)
+          | else-not-gone-i-via-else-not-gone-i v ↦ turn_gone still below _ _ _ at.invariant.marks v.if-not-gone-i.false
+        ]);
       }
     ]
 

@@ -1,13 +1,14 @@
 -- Each turn leaves the marks as the pass says (`Passed`); the two products of a turn fit.
 use mathlib.Core.Path.{◌≡◌}
+use mathlib.Core.Bool.{Bool}
 use mathlib.Core.List.{List}
 use Rattle.sector_passes.specs.Marks.{still_in, is_below}
 use Rattle.sector_passes.proofs.Passed.{Passed}
-use Prim.Native.Nat.{ℕ, ◌-◌, ◌≤◌}
+use Prim.Native.Nat.{ℕ, ◌≤◌}
 use lib.ListN.{length}
 use Rattle.sector_passes.proofs.pass.Given as goal
 
-pub record Turned (rest total : ℕ) (ss ms gone₀ gone : List ℕ) (leave i : ℕ) : Type 0 where
+pub record Turned (rest total : ℕ) (ss ms : List ℕ) (gone₀ gone : List Bool) (leave i : ℕ) : Type 0 where
   pub most : i ≤ length ss
   pub few : leave ≤ i
   pub same : length gone ≡ length gone₀
@@ -15,6 +16,3 @@ pub record Turned (rest total : ℕ) (ss ms gone₀ gone : List ℕ) (leave i : 
 
 abbrev pub invariant-loop-i : goal.invariant-loop-i
 invariant-loop-i l = Turned l.rest l.total l.strengths l.minima l.initial.gone l.gone l.leave l.i
-
-abbrev pub decreases-loop-i : goal.decreases-loop-i
-decreases-loop-i l = length l.strengths - l.i

@@ -1,5 +1,6 @@
 -- After k passes the rest of them from the marks at hand is the whole (proofs/Settling.antt).
 use mathlib.Core.Path.{◌≡◌}
+use mathlib.Core.Bool.{Bool}
 use mathlib.Core.List.{List}
 use Rattle.rules.specs.Limits.{most_sectors}
 use Rattle.sector_passes.specs.Marks.{still_in}
@@ -8,13 +9,10 @@ use lib.ListN.{length}
 use Rattle.rules.specs.Allocation.{Sharing, sharing, sectors, passes, stayed}
 use Rattle.sector_passes.proofs.settle.Given as goal
 
-pub record Going (a : Sharing) (gone : List ℕ) (k : ℕ) : Type 0 where
+pub record Going (a : Sharing) (gone : List Bool) (k : ℕ) : Type 0 where
   pub most : k ≤ sectors a
   pub full : length gone ≡ most_sectors
   pub rest : stayed a ≡ passes (sectors a - k) a (still_in gone)
 
 abbrev pub invariant-loop-k : goal.invariant-loop-k
-invariant-loop-k l = Going (sharing l.interviews l.strengths l.minima) l.gone l.k
-
-abbrev pub decreases-loop-k : goal.decreases-loop-k
-decreases-loop-k l = length l.strengths - l.k
+invariant-loop-k l = Going (sharing l.interviews l.strengths l.minima) l.gone l._k

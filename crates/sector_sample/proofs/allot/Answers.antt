@@ -1,8 +1,7 @@
 -- The passes, the division and what is given, one after the other (proofs/Allotted.antt).
 use mathlib.Core.Path.{refl}
-use Rattle.rules.specs.Allocation.{sharing}
 use Rattle.sector_passes.proofs.Settling.{strengths_summable, given_low}
-use Rattle.sector_sample.proofs.Allotted.{Ready, dividable, wholes_are, wholes_summable, sum_fits, remainders_are, givable, counts_are}
+use Rattle.sector_sample.proofs.Allotted.{ready, dividable, wholes_are, wholes_summable, sum_fits, remainders_are, givable, counts_are}
 use Rattle.sector_sample.proofs.allot.Goals as goal
 
 pub overflow_sub-rest : goal.overflow_sub-rest
@@ -13,58 +12,28 @@ sum_still-total-requires c = strengths_summable _ c.requires _ c.settle-gone.ens
 
 pub divide-quotas-requires : goal.divide-quotas-requires
 divide-quotas-requires c =
-    let w : Ready (sharing c.args.interviews c.args.strengths.now c.args.minima.now) c.settle-gone.result c.sum_gone.result c.sum_still-total.result = record {
-      ok = c.requires;
-      full = c.settle-gone.ensures.result_len;
-      settled = c.settle-gone.ensures.result_value;
-      minima_are = c.sum_gone.ensures;
-      strengths_are = c.sum_still-total.ensures;
-    } in
+    let w = ready c.requires c.settle-gone.ensures.result_len c.settle-gone.ensures.result_value c.sum_gone.ensures c.sum_still-total.ensures in
     dividable _ _ _ _ w
 
 pub sum_still-requires : goal.sum_still-requires
 sum_still-requires c =
-    let w : Ready (sharing c.args.interviews c.args.strengths.now c.args.minima.now) c.settle-gone.result c.sum_gone.result c.sum_still-total.result = record {
-      ok = c.requires;
-      full = c.settle-gone.ensures.result_len;
-      settled = c.settle-gone.ensures.result_value;
-      minima_are = c.sum_gone.ensures;
-      strengths_are = c.sum_still-total.ensures;
-    } in
+    let w = ready c.requires c.settle-gone.ensures.result_len c.settle-gone.ensures.result_value c.sum_gone.ensures c.sum_still-total.ensures in
     wholes_summable _ _ _ _ w _ c.divide-quotas.ensures.wholes_value
 
 pub overflow_sub-more : goal.overflow_sub-more
 overflow_sub-more c =
-    let w : Ready (sharing c.args.interviews c.args.strengths.now c.args.minima.now) c.settle-gone.result c.sum_gone.result c.sum_still-total.result = record {
-      ok = c.requires;
-      full = c.settle-gone.ensures.result_len;
-      settled = c.settle-gone.ensures.result_value;
-      minima_are = c.sum_gone.ensures;
-      strengths_are = c.sum_still-total.ensures;
-    } in
+    let w = ready c.requires c.settle-gone.ensures.result_len c.settle-gone.ensures.result_value c.sum_gone.ensures c.sum_still-total.ensures in
     sum_fits _ _ _ _ w _ c.divide-quotas.ensures.wholes_value _ c.sum_still.ensures
 
 pub give-requires : goal.give-requires
 give-requires c =
-    let w : Ready (sharing c.args.interviews c.args.strengths.now c.args.minima.now) c.settle-gone.result c.sum_gone.result c.sum_still-total.result = record {
-      ok = c.requires;
-      full = c.settle-gone.ensures.result_len;
-      settled = c.settle-gone.ensures.result_value;
-      minima_are = c.sum_gone.ensures;
-      strengths_are = c.sum_still-total.ensures;
-    } in
+    let w = ready c.requires c.settle-gone.ensures.result_len c.settle-gone.ensures.result_value c.sum_gone.ensures c.sum_still-total.ensures in
     let q = c.divide-quotas.ensures in
     givable _ _ _ _ w _ q.wholes_value _ c.sum_still.ensures _ _ q.remainders_value q.counts_value
 
 pub returns : goal.returns
 returns c =
-    let w : Ready (sharing c.args.interviews c.args.strengths.now c.args.minima.now) c.settle-gone.result c.sum_gone.result c.sum_still-total.result = record {
-      ok = c.requires;
-      full = c.settle-gone.ensures.result_len;
-      settled = c.settle-gone.ensures.result_value;
-      minima_are = c.sum_gone.ensures;
-      strengths_are = c.sum_still-total.ensures;
-    } in
+    let w = ready c.requires c.settle-gone.ensures.result_len c.settle-gone.ensures.result_value c.sum_gone.ensures c.sum_still-total.ensures in
     let q = c.divide-quotas.ensures in
     record {
       counts_value = counts_are _ _ _ _ w _ q.wholes_value _ c.sum_still.ensures _ _ q.remainders_value q.counts_value _ c.give.ensures;

@@ -23,7 +23,7 @@ given a cs ws rs good c w r = rw good (refl, (c, (w, r)))
 pub returns-then-bad_sharing : goal.returns-then-bad_sharing
 returns-then-bad_sharing c =
     let bad = sym c.bad_sharing.ensures ∙ c.if-bad_sharing.true in
-    let all = refused _ _ _ _ bad c.blank.ensures c.blank-then-bad_sharing.ensures c.blank-then-bad_sharing-2.ensures in
+    let all = refused _ _ _ _ bad refl refl refl in
     record { verdict_value = all.0; counts_value = all.1.0; wholes_value = all.1.1.0; remainders_value = all.1.1.1 }
 
 pub allot-requires : goal.allot-requires

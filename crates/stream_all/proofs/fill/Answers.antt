@@ -8,6 +8,7 @@ use native.Mathlib.Omega.{arith}
 use Rattle.rules.specs.Refusals.{Judged}
 use Rattle.rules.specs.Stream.{Command, Front, reading}
 use Rattle.rules.specs.Writing.{Lists, rows_read, too_short}
+use Rattle.std.proofs.Common.{Ok}
 use Rattle.stream_read.specs.Value.{reading_from}
 use Rattle.stream_read.proofs.Unread.{rest_shorter}
 use Rattle.stream_row.specs.Value.{row_from}
@@ -20,34 +21,34 @@ here : (s t : List ℕ) (before l : Lists) (i : ℕ) (c : Command) → Filling s
     → reading t ≡ Judged.given (Front.command c) → Roomy (i + 1) l
 here s t before l i c f e k = places f (roomy _ _ e) c k
 
-pub returns-in-Refused : goal.returns-in-Refused
-returns-in-Refused c = ends c.loop-command.invariant (stopped c.loop-command.t.now _ (sym c.read.ensures ∙ ap reading_from c.in-Refused.is)).0
+pub returns-in-Err : goal.returns-in-Err
+returns-in-Err c = ends c.commands.invariant (stopped c.commands.t.now _ (sym c.read.ensures ∙ ap reading_from c.in-Err.is)).0
 
-pub returns-in-Ended : goal.returns-in-Ended
-returns-in-Ended c = ends c.loop-command.invariant (ended c.loop-command.t.now (sym c.read.ensures ∙ ap reading_from c.in-Ended.is)).0
+pub returns-in-Ok-None : goal.returns-in-Ok-None
+returns-in-Ok-None c = ends c.commands.invariant (ended c.commands.t.now (sym c.read.ensures ∙ ap reading_from (c.in-Ok-None.is ∙ ap Ok c.in-Ok-None.field-0-is))).0
 
 pub bounds-kinds-i : goal.bounds-kinds-i
-bounds-kinds-i c = omega (arith, (here _ _ _ _ _ _ c.loop-command.invariant c.requires (sym c.read.ensures ∙ ap reading_from c.in-Found.is)).kinds)
+bounds-kinds-i c = omega (arith, (here _ _ _ _ _ _ c.commands.invariant c.requires (sym c.read.ensures ∙ ap reading_from (c.in-Ok-Some.is ∙ ap Ok c.in-Ok-Some.field-0-is))).kinds)
 
 pub bounds-sizes-i : goal.bounds-sizes-i
-bounds-sizes-i c = omega (arith, (here _ _ _ _ _ _ c.loop-command.invariant c.requires (sym c.read.ensures ∙ ap reading_from c.in-Found.is)).sizes)
+bounds-sizes-i c = omega (arith, (here _ _ _ _ _ _ c.commands.invariant c.requires (sym c.read.ensures ∙ ap reading_from (c.in-Ok-Some.is ∙ ap Ok c.in-Ok-Some.field-0-is))).sizes)
 
 pub bounds-shares-i : goal.bounds-shares-i
-bounds-shares-i c = omega (arith, (here _ _ _ _ _ _ c.loop-command.invariant c.requires (sym c.read.ensures ∙ ap reading_from c.in-Found.is)).shares)
+bounds-shares-i c = omega (arith, (here _ _ _ _ _ _ c.commands.invariant c.requires (sym c.read.ensures ∙ ap reading_from (c.in-Ok-Some.is ∙ ap Ok c.in-Ok-Some.field-0-is))).shares)
 
 pub bounds-numbers-i : goal.bounds-numbers-i
-bounds-numbers-i c = omega (arith, (here _ _ _ _ _ _ c.loop-command.invariant c.requires (sym c.read.ensures ∙ ap reading_from c.in-Found.is)).numbers)
+bounds-numbers-i c = omega (arith, (here _ _ _ _ _ _ c.commands.invariant c.requires (sym c.read.ensures ∙ ap reading_from (c.in-Ok-Some.is ∙ ap Ok c.in-Ok-Some.field-0-is))).numbers)
 
 pub bounds-randoms-i : goal.bounds-randoms-i
-bounds-randoms-i c = omega (arith, (here _ _ _ _ _ _ c.loop-command.invariant c.requires (sym c.read.ensures ∙ ap reading_from c.in-Found.is)).randoms)
+bounds-randoms-i c = omega (arith, (here _ _ _ _ _ _ c.commands.invariant c.requires (sym c.read.ensures ∙ ap reading_from (c.in-Ok-Some.is ∙ ap Ok c.in-Ok-Some.field-0-is))).randoms)
 
 pub bounds-amounts-i : goal.bounds-amounts-i
-bounds-amounts-i c = omega (arith, (here _ _ _ _ _ _ c.loop-command.invariant c.requires (sym c.read.ensures ∙ ap reading_from c.in-Found.is)).amounts)
+bounds-amounts-i c = omega (arith, (here _ _ _ _ _ _ c.commands.invariant c.requires (sym c.read.ensures ∙ ap reading_from (c.in-Ok-Some.is ∙ ap Ok c.in-Ok-Some.field-0-is))).amounts)
 
-pub loop-command-smaller : goal.loop-command-smaller
-loop-command-smaller c = omega (arith, rest_shorter _ _ (sym c.read.ensures ∙ ap reading_from c.in-Found.is), ap length c.unread-rest.ensures)
+pub commands-smaller : goal.commands-smaller
+commands-smaller c = omega (arith, rest_shorter _ _ (sym c.read.ensures ∙ ap reading_from (c.in-Ok-Some.is ∙ ap Ok c.in-Ok-Some.field-0-is)), ap length c.unread-t.ensures)
 
-pub loop-command-preserved : goal.loop-command-preserved
-loop-command-preserved c =
-    goes_on_lem c.loop-command.invariant (roomy _ _ c.requires) _ (sym c.read.ensures ∙ ap reading_from c.in-Found.is)
-    (row_from c.row_of-row.result) _ c.row_of-row.ensures c.unread-rest.ensures
+pub commands-preserved : goal.commands-preserved
+commands-preserved c =
+    goes_on_lem c.commands.invariant (roomy _ _ c.requires) _ (sym c.read.ensures ∙ ap reading_from (c.in-Ok-Some.is ∙ ap Ok c.in-Ok-Some.field-0-is))
+    (row_from c.from-row.result) _ c.from-row.ensures c.unread-t.ensures

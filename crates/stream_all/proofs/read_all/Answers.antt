@@ -8,27 +8,57 @@ use Rattle.rules.proofs.Refusals.{given_tells, refused_tells}
 use Rattle.refusals.specs.Number.{number_of}
 use Rattle.refusals.proofs.Numbers.{number_is_suc}
 use Rattle.stream_all.specs.Answer.{answer_from}
+use Rattle.std.proofs.lemmas.Result.{err_from_is_err_and}
+use Rattle.stream_all.proofs.Lengths.{below_as}
 use Rattle.stream_all.proofs.read_all.Goals as goal
 
 -- what was asked of n is asked of the count
 asked : (l : Lists) (m n : ℕ) (r : Bool) → n ≡ m → r ≡ too_short n l → too_short m l ≡ r
 asked l m n r p e = ap (λ (k : ℕ). too_short k l) (sym p) ∙ sym e
 
-pub returns-then-short : goal.returns-then-short
-unfolding read_all_answer read_all_lists read_all_refusal refuse ◌then◌
-returns-then-short c =
-    let counted = given_tells _ _ _ (sym (ap answer_from c.in-Commands.is) ∙ c.count.ensures) in
-    let l = lists c.args.kinds.now c.args.sizes.now c.args.shares.now c.args.numbers.now c.args.randoms.now c.args.amounts.now in
-    simp (counted.0, asked l _ _ _ counted.1 c.short.ensures, c.if-short.true) (record { result_value = refl; amounts_after = refl })
+pub returns-in_err-n-clause-result_value : goal.returns-in_err-n-clause-result_value
+unfolding read_all_answer read_all_refusal ◌then◌
+returns-in_err-n-clause-result_value c =
+    let p = err_from_is_err_and c.from_residual.result c.from_residual.ensures.1 in
+    let stop : (whole_of c.args.s.now).stop ≡ number_of c.in_err-n.field-0.0 = sym (refused_tells _ _ _ (sym (ap answer_from c.in_err-n.was) ∙ c.count.ensures)) in
+    rw (p.1, p.2, stop, number_is_suc c.in_err-n.field-0.0)
 
-pub returns-in-Refused : goal.returns-in-Refused
-unfolding read_all_answer read_all_lists read_all_refusal ◌then◌
-returns-in-Refused c = let stop : (whole_of c.args.s.now).stop ≡ number_of c.in-Refused.why = sym (refused_tells _ _ _ (sym (ap answer_from c.in-Refused.is) ∙ c.count.ensures)) in
-    rw (stop, number_is_suc c.in-Refused.why) (record { result_value = refl; amounts_after = refl })
+pub returns-in_err-n-clause-amounts_after : goal.returns-in_err-n-clause-amounts_after
+unfolding read_all_lists read_all_refusal ◌then◌
+returns-in_err-n-clause-amounts_after c =
+    let stop : (whole_of c.args.s.now).stop ≡ number_of c.in_err-n.field-0.0 = sym (refused_tells _ _ _ (sym (ap answer_from c.in_err-n.was) ∙ c.count.ensures)) in
+    rw (stop, number_is_suc c.in_err-n.field-0.0)
 
-pub returns-else-short : goal.returns-else-short
-unfolding read_all_answer read_all_lists read_all_refusal refuse ◌then◌
-returns-else-short c =
-    let counted = given_tells _ _ _ (sym (ap answer_from c.in-Commands.is) ∙ c.count.ensures) in
+pub returns-then-short-clause-result_value : goal.returns-then-short-clause-result_value
+unfolding read_all_answer read_all_refusal refuse ◌then◌
+returns-then-short-clause-result_value c =
+    let counted = given_tells _ _ _ (sym (ap answer_from c.in_ok-n.was) ∙ c.count.ensures) in
     let l = lists c.args.kinds.now c.args.sizes.now c.args.shares.now c.args.numbers.now c.args.randoms.now c.args.amounts.now in
-    simp (counted.0, asked l _ _ _ counted.1 c.short.ensures, c.if-short.false, counted.1) (record { result_value = refl; amounts_after = c.fill.ensures })
+    simp (counted.0, asked l _ _ _ counted.1 (c.short.ensures ∙ below_as _ l), c.if-short.true)
+
+pub returns-then-short-clause-amounts_after : goal.returns-then-short-clause-amounts_after
+unfolding read_all_lists read_all_refusal refuse ◌then◌
+returns-then-short-clause-amounts_after c =
+    let counted = given_tells _ _ _ (sym (ap answer_from c.in_ok-n.was) ∙ c.count.ensures) in
+    let l = lists c.args.kinds.now c.args.sizes.now c.args.shares.now c.args.numbers.now c.args.randoms.now c.args.amounts.now in
+    simp (counted.0, asked l _ _ _ counted.1 (c.short.ensures ∙ below_as _ l), c.if-short.true)
+
+pub fill-requires : goal.fill-requires
+fill-requires c =
+    let counted = given_tells _ _ _ (sym (ap answer_from c.in_ok-n.was) ∙ c.count.ensures) in
+    let l = lists c.args.kinds.now c.args.sizes.now c.args.shares.now c.args.numbers.now c.args.randoms.now c.args.amounts.now in
+    asked l _ _ _ counted.1 (c.short.ensures ∙ below_as _ l) ∙ c.if-short.false
+
+pub returns-clause-result_value : goal.returns-clause-result_value
+unfolding read_all_answer read_all_refusal refuse ◌then◌
+returns-clause-result_value c =
+    let counted = given_tells _ _ _ (sym (ap answer_from c.in_ok-n.was) ∙ c.count.ensures) in
+    let l = lists c.args.kinds.now c.args.sizes.now c.args.shares.now c.args.numbers.now c.args.randoms.now c.args.amounts.now in
+    simp (counted.0, asked l _ _ _ counted.1 (c.short.ensures ∙ below_as _ l), c.if-short.false, counted.1)
+
+pub returns-clause-amounts_after : goal.returns-clause-amounts_after
+unfolding read_all_lists read_all_refusal refuse ◌then◌
+returns-clause-amounts_after c =
+    let counted = given_tells _ _ _ (sym (ap answer_from c.in_ok-n.was) ∙ c.count.ensures) in
+    let l = lists c.args.kinds.now c.args.sizes.now c.args.shares.now c.args.numbers.now c.args.randoms.now c.args.amounts.now in
+    simp (counted.0, asked l _ _ _ counted.1 (c.short.ensures ∙ below_as _ l), c.if-short.false) c.fill.ensures

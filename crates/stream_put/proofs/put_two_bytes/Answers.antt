@@ -1,10 +1,8 @@
--- The upper byte and then the lower.
-use native.Mathlib.Omega.{arith}
-use Rattle.stream_put.proofs.Halves.{after, join}
+-- The bytes that std gives are those of the definition.
+use mathlib.Core.Path.{◌∙◌}
+use Rattle.text_decimal.proofs.Laying.{says}
+use Rattle.stream_put.proofs.Halves.{bytes_as}
 use Rattle.stream_put.proofs.put_two_bytes.Goals as goal
 
-pub put_byte-requires : goal.put_byte-requires
-put_byte-requires c = omega (arith, after 1 _ c.put_byte-next.ensures)
-
 pub returns : goal.returns
-returns c = join 1 c.args.x (omega arith) c.put_byte-next.ensures c.put_byte.ensures (omega arith)
+returns c = says (c.to_be_bytes-two.ensures ∙ bytes_as 2 c.args.x) c.put_bytes.ensures

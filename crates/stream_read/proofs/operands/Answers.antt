@@ -1,74 +1,73 @@
 -- Each arm by the table at its command byte; the width leaves room for every operand.
 use native.Mathlib.Omega.{arith}
-use borrow.Author.Tests.{ne_eqb}
 use Rattle.stream_bytes.proofs.Joined.{byte}
 use Rattle.rules.specs.Stream.{operands_of, command_of, width_of}
 use Rattle.stream_read.proofs.operands.Goals as goal
 
 pub word_at-requires : goal.word_at-requires
 unfolding width_of command_of operands_of
-word_at-requires c = omega (arith, rw c.in-1.is at c.requires)
+word_at-requires c = omega (arith, rw c.in-Unit.is at c.requires)
 
 pub two_words-requires : goal.two_words-requires
 unfolding width_of command_of operands_of
-two_words-requires c = omega (arith, rw c.in-1.is at c.requires)
+two_words-requires c = omega (arith, rw c.in-Unit.is at c.requires)
 
-pub word_at-requires-in-1 : goal.word_at-requires-in-1
+pub word_at-requires-in-Unit : goal.word_at-requires-in-Unit
 unfolding width_of command_of operands_of
-word_at-requires-in-1 c = omega (arith, rw c.in-1.is at c.requires)
+word_at-requires-in-Unit c = omega (arith, rw c.in-Unit.is at c.requires)
 
 pub bounds-s-1 : goal.bounds-s-1
 unfolding width_of command_of operands_of
-bounds-s-1 c = omega (arith, rw c.in-2.is at c.requires)
+bounds-s-1 c = omega (arith, rw c.in-Draw.is at c.requires)
 
-pub word_at-requires-in-2 : goal.word_at-requires-in-2
+pub word_at-requires-in-Draw : goal.word_at-requires-in-Draw
 unfolding width_of command_of operands_of
-word_at-requires-in-2 c = omega (arith, rw c.in-2.is at c.requires)
+word_at-requires-in-Draw c = omega (arith, rw c.in-Draw.is at c.requires)
 
-pub bounds-s-1-in-3 : goal.bounds-s-1-in-3
+pub bounds-s-1-in-Share : goal.bounds-s-1-in-Share
 unfolding width_of command_of operands_of
-bounds-s-1-in-3 c = omega (arith, rw c.in-3.is at c.requires)
+bounds-s-1-in-Share c = omega (arith, rw c.in-Share.is at c.requires)
 
 pub two_bytes-requires : goal.two_bytes-requires
 unfolding width_of command_of operands_of
-two_bytes-requires c = omega (arith, rw c.in-3.is at c.requires)
+two_bytes-requires c = omega (arith, rw c.in-Share.is at c.requires)
 
-pub bounds-s-1-in-4 : goal.bounds-s-1-in-4
+pub bounds-s-1-in-Relative : goal.bounds-s-1-in-Relative
 unfolding width_of command_of operands_of
-bounds-s-1-in-4 c = omega (arith, rw c.in-4.is at c.requires)
+bounds-s-1-in-Relative c = omega (arith, rw c.in-Relative.is at c.requires)
 
-pub word_at-requires-in-4 : goal.word_at-requires-in-4
+pub word_at-requires-in-Relative : goal.word_at-requires-in-Relative
 unfolding width_of command_of operands_of
-word_at-requires-in-4 c = omega (arith, rw c.in-4.is at c.requires)
+word_at-requires-in-Relative c = omega (arith, rw c.in-Relative.is at c.requires)
 
-pub two_words-requires-in-5 : goal.two_words-requires-in-5
+pub two_words-requires-in-Open : goal.two_words-requires-in-Open
 unfolding width_of command_of operands_of
-two_words-requires-in-5 c = omega (arith, rw c.in-5.is at c.requires)
+two_words-requires-in-Open c = omega (arith, rw c.in-Open.is at c.requires)
 
-pub returns-in-1 : goal.returns-in-1
+pub returns-in-Unit : goal.returns-in-Unit
 unfolding command_of operands_of
-returns-in-1 c = rw (c.in-1.is, c.word_at.ensures, c.two_words.ensures, c.word_at-in-1.ensures)
+returns-in-Unit c = rw (c.in-Unit.is, c.word_at.ensures, c.two_words.ensures, c.word_at-in-Unit.ensures)
 
-pub returns-in-2 : goal.returns-in-2
+pub returns-in-Draw : goal.returns-in-Draw
 unfolding command_of operands_of
-returns-in-2 c = rw (c.in-2.is, byte c.args.s.now 1, c.word_at-in-2.ensures)
+returns-in-Draw c = rw (c.in-Draw.is, byte c.args.s.now 1, c.word_at-in-Draw.ensures)
 
-pub returns-in-3 : goal.returns-in-3
+pub returns-in-Share : goal.returns-in-Share
 unfolding command_of operands_of
-returns-in-3 c = rw (c.in-3.is, byte c.args.s.now 1, c.two_bytes.ensures)
+returns-in-Share c = rw (c.in-Share.is, byte c.args.s.now 1, c.two_bytes.ensures)
 
-pub returns-in-4 : goal.returns-in-4
+pub returns-in-Relative : goal.returns-in-Relative
 unfolding command_of operands_of
-returns-in-4 c = rw (c.in-4.is, byte c.args.s.now 1, c.word_at-in-4.ensures)
+returns-in-Relative c = rw (c.in-Relative.is, byte c.args.s.now 1, c.word_at-in-Relative.ensures)
 
-pub returns-in-5 : goal.returns-in-5
+pub returns-in-Open : goal.returns-in-Open
 unfolding width_of command_of operands_of
-returns-in-5 c = rw (c.in-5.is, c.two_words-in-5.ensures)
+returns-in-Open c = rw (c.in-Open.is, c.two_words-in-Open.ensures)
 
-pub returns-in-6 : goal.returns-in-6
+pub returns-in-Quarter : goal.returns-in-Quarter
 unfolding width_of command_of operands_of
-returns-in-6 c = rw c.in-6.is
+returns-in-Quarter c = rw c.in-Quarter.is
 
-pub returns-in_default : goal.returns-in_default
+pub returns-in-Close : goal.returns-in-Close
 unfolding command_of operands_of
-returns-in_default c = simp (ne_eqb c.args.k 1 (omega arith), ne_eqb c.args.k 2 (omega arith), ne_eqb c.args.k 3 (omega arith), ne_eqb c.args.k 4 (omega arith), ne_eqb c.args.k 5 (omega arith), ne_eqb c.args.k 6 (omega arith))
+returns-in-Close c = rw c.in-Close.is

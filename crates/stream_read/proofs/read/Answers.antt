@@ -1,39 +1,44 @@
 -- Each return by the tests that led to it, in the order of the definition.
-use mathlib.Core.Path.{ap}
-use borrow.Author.Tests.{le-ltb, lt-ltb, eq-eqb, ne_eqb}
+use mathlib.Core.Path.{sym, ap, ◌∙◌, subst}
+use Prim.Native.Nat.{ℕ, ◌<◌, ◌≤◌}
+use Rattle.std.proofs.lemmas.Result.{err_from_is_err_and}
+use lib.ListN.{length}
+use borrow.Author.Tests.{le-ltb, lt-ltb}
 use Rattle.rules.specs.Limits.{most_stream}
-use Rattle.rules.specs.Tests.{outside, ◌or◌}
-use Rattle.rules.specs.Refusals.{Judged, refuse, ◌then◌}
-use Rattle.rules.specs.Stream.{Command, Front, reading_refusal, reading}
+use Rattle.rules.specs.Refusals.{refuse, ◌then◌}
+use Rattle.rules.specs.Stream.{width_of, command_of, reading_refusal, reading}
+use Rattle.stream_read.proofs.CommandBytes.{in_range}
 use Rattle.stream_read.proofs.read.Goals as goal
 
 pub returns-then-s-gt-MOST_STREAM : goal.returns-then-s-gt-MOST_STREAM
 unfolding reading reading_refusal refuse ◌then◌
 returns-then-s-gt-MOST_STREAM c = simp (lt-ltb most_stream _ c.if-s-gt-MOST_STREAM.true)
 
-pub returns-then-s-eq0 : goal.returns-then-s-eq0
+pub returns-then-is_empty : goal.returns-then-is_empty
 unfolding reading reading_refusal refuse ◌then◌
-returns-then-s-eq0 c = simp (le-ltb most_stream _ c.if-s-gt-MOST_STREAM.false, eq-eqb _ _ c.if-s-eq0.true)
+returns-then-is_empty c = simp (le-ltb most_stream _ c.if-s-gt-MOST_STREAM.false, sym c.is_empty.ensures ∙ c.if-is_empty.true)
 
-pub returns-then-k-lt1 : goal.returns-then-k-lt1
-unfolding reading reading_refusal outside refuse ◌or◌ ◌then◌
-returns-then-k-lt1 c = simp (le-ltb most_stream _ c.if-s-gt-MOST_STREAM.false, ne_eqb _ _ c.if-s-eq0.false, lt-ltb _ _ c.if-k-lt1.true)
-
-pub returns-then-k-gt7 : goal.returns-then-k-gt7
-unfolding reading reading_refusal outside refuse ◌or◌ ◌then◌
-returns-then-k-gt7 c = simp (le-ltb most_stream _ c.if-s-gt-MOST_STREAM.false, ne_eqb _ _ c.if-s-eq0.false, le-ltb _ _ c.if-k-lt1.false, lt-ltb _ _ c.if-k-gt7.true)
+pub returns-in_err-kind : goal.returns-in_err-kind
+unfolding reading reading_refusal refuse ◌then◌
+returns-in_err-kind c =
+    let p = err_from_is_err_and c.from_residual.result c.from_residual.ensures.1 in
+    let fits = le-ltb most_stream _ c.if-s-gt-MOST_STREAM.false in
+    let some = sym c.is_empty.ensures ∙ c.if-is_empty.false in
+    rw (p.1, p.2) (rw c.in_err-kind.ensures.0 (simp (fits, some, c.in_err-kind.ensures.1)))
 
 pub returns-then-s-width : goal.returns-then-s-width
-unfolding reading reading_refusal outside refuse ◌or◌ ◌then◌
-returns-then-s-width c = let fits = le-ltb most_stream _ c.if-s-gt-MOST_STREAM.false in
-    let low = le-ltb _ _ c.if-k-lt1.false in
-    let high = le-ltb _ _ c.if-k-gt7.false in
-    simp (fits, ne_eqb _ _ c.if-s-eq0.false, low, high, ← c.width.ensures, lt-ltb _ _ c.if-s-width.true)
+unfolding reading reading_refusal refuse ◌then◌
+returns-then-s-width c =
+    let fits = le-ltb most_stream _ c.if-s-gt-MOST_STREAM.false in
+    let some = sym c.is_empty.ensures ∙ c.if-is_empty.false in
+    let known = in_range c.in_ok-kind.kind _ c.in_ok-kind.ensures in
+    simp (fits, some, known, lt-ltb _ _ (subst (λ (k : ℕ). length c.args.s.now < width_of k) c.in_ok-kind.ensures (rw c.width.ensures at c.if-s-width.true)))
 
 pub returns : goal.returns
-unfolding reading reading_refusal outside refuse ◌or◌ ◌then◌
-returns c = let fits = le-ltb most_stream _ c.if-s-gt-MOST_STREAM.false in
-    let low = le-ltb _ _ c.if-k-lt1.false in
-    let high = le-ltb _ _ c.if-k-gt7.false in
-    simp (fits, ne_eqb _ _ c.if-s-eq0.false, low, high, ← c.width.ensures, le-ltb _ _ c.if-s-width.false)
-    (ap (λ (x : Command). Judged.given (Front.command x)) c.operands.ensures)
+unfolding reading reading_refusal refuse ◌then◌
+returns c =
+    let fits = le-ltb most_stream _ c.if-s-gt-MOST_STREAM.false in
+    let some = sym c.is_empty.ensures ∙ c.if-is_empty.false in
+    let known = in_range c.in_ok-kind.kind _ c.in_ok-kind.ensures in
+    let here = c.operands.ensures ∙ ap (λ k. command_of k c.args.s.now) c.in_ok-kind.ensures in
+    simp (fits, some, known, le-ltb _ _ (subst (λ (k : ℕ). width_of k ≤ length c.args.s.now) c.in_ok-kind.ensures (rw c.width.ensures at c.if-s-width.false)), here)

@@ -1,29 +1,7 @@
--- Each arm by the table at its command byte.
-use native.Mathlib.Omega.{arith}
-use borrow.Author.Tests.{ne_eqb}
-use Rattle.rules.specs.Stream.{operands_of, width_of}
+-- A byte that asks for no command stands alone.
+use mathlib.Core.Path.{sym}
+use Rattle.stream_read.proofs.CommandBytes.{alone}
 use Rattle.stream_read.proofs.width.Goals as goal
 
-pub returns-in-1 : goal.returns-in-1
-unfolding width_of operands_of
-returns-in-1 c = rw c.in-1.is
-
-pub returns-in-2 : goal.returns-in-2
-unfolding width_of operands_of
-returns-in-2 c = rw c.in-2.is
-
-pub returns-in-3 : goal.returns-in-3
-unfolding width_of operands_of
-returns-in-3 c = rw c.in-3.is
-
-pub returns-in-4 : goal.returns-in-4
-unfolding width_of operands_of
-returns-in-4 c = rw c.in-4.is
-
-pub returns-in-5 : goal.returns-in-5
-unfolding width_of operands_of
-returns-in-5 c = rw c.in-5.is
-
-pub returns-in_default : goal.returns-in_default
-unfolding width_of operands_of
-returns-in_default c = simp (ne_eqb c.args.k 1 (omega arith), ne_eqb c.args.k 2 (omega arith), ne_eqb c.args.k 3 (omega arith), ne_eqb c.args.k 4 (omega arith), ne_eqb c.args.k 5 (omega arith))
+pub returns-in-Err : goal.returns-in-Err
+returns-in-Err c = sym (alone c.args.k c.in-Err.ensures.1)

@@ -6,9 +6,10 @@ use mathlib.Core.List.{List, ◌++◌}
 use lib.ListN.{length, get_or, take}
 use native.Mathlib.Omega.{arith}
 use Rattle.rules.specs.Stream.{width_of}
-use Rattle.rules.specs.Writing.{Row, Lists, lists, command_bytes, stream_of, rows_in, stream_in}
+use Rattle.rules.specs.Writing.{Row, Lists, command_bytes, stream_of, rows_in, stream_in}
 use Rattle.text_decimal.proofs.Laying.{in_turn, says, nothing}
-use Rattle.stream_write.proofs.Rows.{Accepted, accepted, blank, no_stream, next_row, room_for, all_rows, row_at, rows_length}
+use Rattle.stream_write.proofs.Rows.{Accepted, accepted, no_stream, next_row, room_for, all_rows, rows_length}
+use Rattle.stream_write.specs.Answer.{lists_of, blank}
 use Rattle.stream_write.proofs.put_all.Goals as goal
 
 more : (l : Lists) (i : ℕ) → i < length l.kinds → i < length (rows_in l)
@@ -21,50 +22,30 @@ unfolding stream_in
 room l out i at fits h place = omega (arith, room_for (rows_in l) i (more l i h), fits.room)
 
 pub loop-i-init : goal.loop-i-init
-loop-i-init c = (omega arith, refl, says (sym no_stream) (nothing c.args.out.now))
+loop-i-init c = (refl, says (sym no_stream) (nothing c.args.out.now))
 
-pub bounds-sizes-i : goal.bounds-sizes-i
-bounds-sizes-i c = omega (arith, accepted _ _ c.requires)
-
-pub bounds-shares-i : goal.bounds-shares-i
-bounds-shares-i c = omega (arith, accepted _ _ c.requires)
-
-pub offset_bounds-numbers-i : goal.offset_bounds-numbers-i
-offset_bounds-numbers-i c = omega (arith, accepted _ _ c.requires)
-
-pub bounds-numbers-i : goal.bounds-numbers-i
-bounds-numbers-i c = omega (arith, accepted _ _ c.requires)
-
-pub offset_bounds-randoms-i : goal.offset_bounds-randoms-i
-offset_bounds-randoms-i c = omega (arith, accepted _ _ c.requires)
-
-pub bounds-randoms-i : goal.bounds-randoms-i
-bounds-randoms-i c = omega (arith, accepted _ _ c.requires)
-
-pub offset_bounds-amounts-i : goal.offset_bounds-amounts-i
-offset_bounds-amounts-i c = omega (arith, accepted _ _ c.requires)
-
-pub bounds-amounts-i : goal.bounds-amounts-i
-bounds-amounts-i c = omega (arith, accepted _ _ c.requires)
+pub row-requires : goal.row-requires
+row-requires c = let all = accepted _ _ c.requires in
+    (record { sizes = all.sizes; shares = all.shares; numbers = all.numbers; randoms = all.randoms; amounts = all.amounts }, c.loop-i-test.true)
 
 pub put_command-at-requires : goal.put_command-at-requires
 put_command-at-requires c =
-    let l = lists c.args.kinds.now c.args.sizes.now c.args.shares.now c.args.numbers.now c.args.randoms.now c.args.amounts.now in
-    let row = row_at l c.loop-i.i c.loop-i-test.true in
-    omega (arith, room l _ _ _ (accepted _ _ c.requires) c.loop-i-test.true c.loop-i.invariant.2.place, ap (λ (x : Row). width_of x.kind) row, c.loop-i.invariant)
+    let l = lists_of c.args.lists.now in
+    let row = c.row.ensures in
+    omega (arith, room l _ _ _ (accepted _ _ c.requires) c.loop-i-test.true c.loop-i.invariant.1.place, ap (λ (x : Row). width_of x.kind) row, c.loop-i.invariant)
 
 pub loop-i-preserved : goal.loop-i-preserved
 loop-i-preserved c =
-    let l = lists c.args.kinds.now c.args.sizes.now c.args.shares.now c.args.numbers.now c.args.randoms.now c.args.amounts.now in
+    let l = lists_of c.args.lists.now in
     let rs = rows_in l in
-    let row = row_at l c.loop-i.i c.loop-i-test.true in
-    let longer = ap (λ (x : Row). stream_of (take c.loop-i.i rs) ++ command_bytes x) (sym row) ∙ sym (next_row rs c.loop-i.i (more l _ c.loop-i-test.true)) in
-    let has = room l _ _ _ (accepted _ _ c.requires) c.loop-i-test.true c.loop-i.invariant.2.place in
-    let laid = in_turn c.loop-i.invariant.2 c.put_command-at.ensures (omega arith) in
-    (omega (arith, c.loop-i-test.true), search rules, says longer laid)
+    let row = c.row.ensures in
+    let longer = ap (λ (x : Row). stream_of (take c.loop-i.i rs) ++ command_bytes x) row ∙ sym (next_row rs c.loop-i.i (more l _ c.loop-i-test.true)) in
+    let has = room l _ _ _ (accepted _ _ c.requires) c.loop-i-test.true c.loop-i.invariant.1.place in
+    let laid = in_turn c.loop-i.invariant.1 c.put_command-at.ensures (omega arith) in
+    (search rules, says longer laid)
 
 pub returns : goal.returns
 unfolding stream_in
 returns c =
-    let l = lists c.args.kinds.now c.args.sizes.now c.args.shares.now c.args.numbers.now c.args.randoms.now c.args.amounts.now in
-    says (all_rows (rows_in l) c.loop-i.i (omega (arith, rows_length l, c.loop-i-test.false))) c.loop-i.invariant.2
+    let l = lists_of c.args.lists.now in
+    says (all_rows (rows_in l) c.loop-i.i (omega (arith, rows_length l, c.loop-i-test.false))) c.loop-i.invariant.1

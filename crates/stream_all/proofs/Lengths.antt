@@ -1,0 +1,25 @@
+-- A test of six lengths in std's words is that of `rules`.
+use Prim.Native.Nat.{ℕ}
+use mathlib.Core.Path.{◌≡◌, refl}
+use mathlib.Core.Bool.{Bool, true, false, ◌||◌}
+use mathlib.Core.List.{[], ◌∷◌}
+use lib.Dec.{ltb}
+use lib.ListN.{length}
+use Rattle.std.specs.List.{list_any}
+use Rattle.rules.specs.Tests.{◌or◌}
+use Rattle.rules.specs.Writing.{Lists, below, too_short}
+
+six : (k a b c d e : Bool) → (k || (a || (b || (c || (d || (e || false)))))) ≡ (k or a or b or c or d or e)
+unfolding ◌or◌
+six true a b c d e = refl
+six false true b c d e = refl
+six false false true c d e = refl
+six false false false true d e = refl
+six false false false false true e = refl
+six false false false false false true = refl
+six false false false false false false = refl
+
+pub below_as :
+    (n : ℕ) (l : Lists) → list_any (λ m. ltb m n) (length l.kinds ∷ length l.sizes ∷ length l.shares ∷ length l.numbers ∷ length l.randoms ∷ length l.amounts ∷ []) ≡ too_short n l
+unfolding below
+below_as n l = six _ _ _ _ _ _
