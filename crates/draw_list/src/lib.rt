@@ -4,9 +4,11 @@
 // check fails nothing is answered, and the caller orders the keys instead.
 #![tactic(auto)]
 
-ghost use Rattle.std.specs.Prelude.{◌≡◌, ◌≤◌, ◌<◌, length, IfSome};
+ghost use Rattle.std.specs.Prelude.{◌≡◌, ◌≤◌, ◌<◌, length, IfSome, MatchOption};
+ghost use Rattle.rules.specs.Selection.{count};
 ghost use Rattle.selection.specs.Marked.{Placed};
 ghost use Rattle.draw_key.specs.Keyed.{over, size_of};
+ghost use Rattle.draw_bound.specs.Bound.{near};
 ghost use Rattle.draw_list.specs.Room.{list_room};
 ghost use Rattle.draw_list.specs.Found.{Listed, Under, Scaled, Parts, IsFound};
 
@@ -21,7 +23,8 @@ pub const ROOM: usize = 256;
 
 // The short list of a frame; None where it has no room for all of them.
 pub fn collect(keyed: &Keyed) -> Option<Shortlist>
-    ensures { IfSome result (λ list. over Listed keyed.now (size_of keyed.now) list.units list.count) }
+    ensures { MatchOption result (list_room < count (over near keyed.now) (size_of keyed.now))
+        (λ list. over Listed keyed.now (size_of keyed.now) list.units list.count) }
 {
     let reach = draw_bound::reach_of(keyed.setting.n);
     let mut units = [0usize; ROOM];

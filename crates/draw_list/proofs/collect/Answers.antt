@@ -1,9 +1,12 @@
 -- The units listed so far are the near ones of those looked at.
 use native.Mathlib.Omega.{arith}
-use Prim.Native.Nat.{◌<◌}
+use Prim.Native.Nat.{◌+◌, ◌<◌}
 use mathlib.Core.Path.{refl, sym, ap, ◌∙◌}
 use lib.ListN.{length, length-set}
 use Rattle.selection.proofs.Held.{held_none, held_not, held_more, held_same}
+use Rattle.selection.proofs.Sums.{count_yes, count_grows}
+use Rattle.draw_key.specs.Keyed.{over, size_of}
+use Rattle.draw_bound.specs.Bound.{near}
 use Rattle.draw_bound.proofs.Terms.{near_is, reach_low}
 use Rattle.draw_list.proofs.collect.Goals.{then-is_near+else-count-ge-ROOM, else-is_near}
 use Rattle.draw_list.proofs.collect.Goals as goal
@@ -32,3 +35,9 @@ units-preserved c =
         record { holds = held_same w.units-is w.count-is (held_not (test ∙ w.if-is_near.false) inv.2.holds) },
       )
     ]
+
+pub returns-then-count-ge-ROOM : goal.returns-then-count-ge-ROOM
+returns-then-count-ge-ROOM c =
+    let at = c.units in
+    let here = near_is c.key.ensures c.reach_of-reach.ensures ∙ sym c.is_near.ensures ∙ c.if-is_near.true in
+    omega (arith, at.invariant.2.holds.many, count_yes (over near c.args.keyed.now) at.i here, count_grows (over near c.args.keyed.now) (at.i + 1) (size_of c.args.keyed.now) (omega arith), c.if-count-ge-ROOM.true)
