@@ -5,8 +5,6 @@ ghost use Rattle.std.specs.Prelude.{◌≡◌};
 ghost use Rattle.rules.specs.Load.{load_answer, load_numbers, load_turnovers, load_randoms};
 ghost use Rattle.c_load.specs.Loaded.{loaded_from};
 
-use frame_made::Answer;
-
 #[repr(C)]
 #[derive(Drop)]
 pub struct Loaded {
@@ -29,12 +27,12 @@ pub extern "C" fn vougecress_load(
     ensures randoms_after { randoms.new ≡ load_randoms start count numbers.old turnovers.old randoms.old }
 {
     match frame_made::load(start, count, numbers, turnovers, randoms) {
-        Answer::Made(made) => Loaded {
+        Ok(made) => Loaded {
             refusal: 0,
             count: made as u64,
         },
-        Answer::Refused(why) => Loaded {
-            refusal: why.number() as u32,
+        Err(why) => Loaded {
+            refusal: u32::from(why.number()),
             count: 0,
         },
     }

@@ -1,10 +1,8 @@
 -- Document 02, [13]: what the code's answer is in the definitions of `rules`.
-use Rattle.std.specs.Prelude.{ℕ}
+use Rattle.std.specs.Prelude.{ℕ, Result}
 use Rattle.rules.specs.Refusals.{Judged}
-use Rattle.refusals.specs.Number.{number_of}
-use Rattle.frame_made.specs.declared.Answer.{Answer}
-use Rattle.frame_made.specs.declared.Answer.TheVariants.{Made, Refused}
+use Rattle.refusals.specs.declared.Refusal.{Refusal}
+use Rattle.refusals.specs.Number.{answer_of}
 
-abbrev pub answer_from : Answer → Judged ℕ
-answer_from (Made count) = Judged.given count
-answer_from (Refused why) = Judged.refused (number_of why)
+abbrev pub answer_from : Result ℕ Refusal → Judged ℕ
+answer_from = answer_of (λ count. count)

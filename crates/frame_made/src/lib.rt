@@ -10,12 +10,6 @@ ghost use Rattle.frame_made.specs.Answer.{answer_from};
 use limits::{MOST_FRAME, RANDOM_RANGE, STATE_ADDEND, STATE_FACTOR, STATE_RANGE, TURNOVER_RANGE};
 use refusals::Refusal;
 
-#[derive(Drop)]
-pub enum Answer {
-    Made(usize),
-    Refused(Refusal),
-}
-
 // The next state. Its product needs 62 bits.
 fn step(s: u64) -> u64
     requires { s < state_range }
@@ -28,22 +22,11 @@ fn step(s: u64) -> u64
 fn bad_load(start: u64, count: usize, numbers: usize, turnovers: usize, randoms: usize) -> bool
     ensures { result ≡ bad_load start count numbers turnovers randoms }
 {
-    if STATE_RANGE <= start {
-        return true;
-    }
-    if count == 0 {
-        return true;
-    }
-    if MOST_FRAME < count {
-        return true;
-    }
-    if numbers < count {
-        return true;
-    }
-    if turnovers < count {
-        return true;
-    }
-    randoms < count
+    STATE_RANGE <= start
+        || !(1..=MOST_FRAME).contains(&count)
+        || numbers < count
+        || turnovers < count
+        || randoms < count
 }
 
 // Lays the units 1 to count: number, turnover and random number of each, two steps a unit.
@@ -54,15 +37,13 @@ fn fill(start: u64, count: usize, numbers: &mut [u32], turnovers: &mut [u64], ra
     ensures randoms_after { randoms.new ≡ written 0 (made_randoms count start) randoms.old }
 {
     let mut s = start;
-    let mut i: usize = 0;
-    while i < count {
+    for i in 0..count {
         let first = step(s);
         let second = step(first);
         numbers[i] = (i + 1) as u32;
         turnovers[i] = first % TURNOVER_RANGE + 1;
-        randoms[i] = (second % RANDOM_RANGE as u64) as u32;
+        randoms[i] = (second % u64::from(RANDOM_RANGE)) as u32;
         s = second;
-        i += 1;
     }
 }
 
@@ -73,15 +54,15 @@ pub fn load(
     numbers: &mut [u32],
     turnovers: &mut [u64],
     randoms: &mut [u32],
-) -> Answer
+) -> Result<usize, Refusal>
     ensures result_value { answer_from result ≡ load_answer start count numbers.old turnovers.old randoms.old }
     ensures numbers_after { numbers.new ≡ load_numbers start count numbers.old turnovers.old randoms.old }
     ensures turnovers_after { turnovers.new ≡ load_turnovers start count numbers.old turnovers.old randoms.old }
     ensures randoms_after { randoms.new ≡ load_randoms start count numbers.old turnovers.old randoms.old }
 {
     if bad_load(start, count, numbers.len(), turnovers.len(), randoms.len()) {
-        return Answer::Refused(Refusal::TestLoad);
+        return Err(Refusal::TestLoad);
     }
     fill(start, count, numbers, turnovers, randoms);
-    Answer::Made(count)
+    Ok(count)
 }

@@ -44,14 +44,9 @@ fn put_text(out: &mut [u8], at: usize, text: &[u8]) -> usize
     requires { at + length text.now ≤ length out.old }
     ensures { Put at text.now out.old out.new result }
 {
-    let mut next = at;
-    let mut i: usize = 0;
-    while i < text.len() {
-        let b = text[i];
-        next = put_byte(out, next, b);
-        i += 1;
-    }
-    next
+    let end = at + text.len();
+    out[at..end].copy_from_slice(text);
+    end
 }
 
 // Lays spaces, at most as many as a name has columns.

@@ -1,20 +1,19 @@
--- The first i bytes of the text stand from the place at on.
-use borrow.Author.Rules.{rules}
-use mathlib.Core.Path.{refl, sym, ap, ◌∙◌}
-use lib.ListN.{take}
-use lib.Seq.{take-suc}
+-- The text is copied into its part of the buffer.
+use Prim.Native.Nat.{ℕ, ◌+◌, ◌-◌}
+use mathlib.Core.Path.{◌≡◌, refl, ap}
+use mathlib.Core.List.{List, ◌++◌}
+use lib.ListN.{length, take}
+use lib.Seq.{drop-drop}
 use native.Mathlib.Omega.{arith}
-use native.Mathlib.Numerals.{add-one}
-use Rattle.text_decimal.proofs.Laying.{in_turn, says}
-use Rattle.text_columns.proofs.Pieces.{nothing_at}
+use borrow.Rule.Slice.PartMut.{put_mid}
+use Rattle.text_decimal.specs.Put.{laid_at}
 use Rattle.text_columns.proofs.put_text.Goals as goal
 
-pub loop-i-init : goal.loop-i-init
-loop-i-init c = (search rules, refl, omega arith, nothing_at c.args.at c.args.out.now)
+copied : (at : ℕ) (text out new : List ℕ) → new ≡ text → put_mid at (at + length text - at) out new ≡ laid_at at text out
+unfolding laid_at
+copied at text out new e =
+    let size : at + length text - at ≡ length text = omega arith in
+    rw (size, e) (ap (λ (rest : List ℕ). take at out ++ (text ++ rest)) (drop-drop (length text) at out))
 
-pub loop-i-preserved : goal.loop-i-preserved
-loop-i-preserved c = let at-loop = c in
-    let l = at-loop.loop-i in
-    let text = at-loop.args.text.now in
-    let more = sym (take-suc text l.i 0 (search rules)) ∙ ap (λ n. take n text) (sym (add-one l.i)) in
-    (search rules, search rules, omega (arith, c.put_byte-next.ensures.place), says more (in_turn l.invariant.3 c.put_byte-next.ensures (omega arith)))
+pub returns : goal.returns
+returns c = record { place = refl; bytes = copied c.args.at c.args.text.now c.args.out.now _ c.copy_from_slice.ensures.after }
