@@ -29,11 +29,12 @@ use Rattle.group_kept.proofs.Accepted.{enlargeable}
 use Rattle.draw_key.specs.declared.Method.{Method as KeyMethod}
 use Rattle.draw_key.specs.declared.Setting.{Setting}
 use Rattle.draw_key.specs.Methods.{method_of}
+use Rattle.draw_key.specs.Units.{Units}
 use Rattle.draw_gaps.specs.Gaps.{Gaps}
 use Rattle.draw_gaps.proofs.Bridge.{units_of_lem, keyless_size, sampled_is}
 use Rattle.rotation_judge.proofs.Accepted.{ListsAccepted, lists_accepted}
 use Rattle.rotation_step.specs.Leaving.{under, setting_at, leaving, first_step}
-use Rattle.rotation_step.specs.Search.{Searched}
+use Rattle.rotation_step.specs.Searched.{Searched}
 use Rattle.rotation_leavers.specs.Leavers.{units_in_order, numbers_of}
 use Rattle.rotation_leavers.proofs.Leavers.{numbers_length_lem, in_order_many}
 use Rattle.rotation.proofs.Members.{Told, member_low, first_is, leavers_are}
@@ -101,12 +102,11 @@ module _ (method : KeyMethod) (ns ts rs : List ℕ) (z old : ℕ) (panel : List 
           ∙ listed_same (member f (marked marks) old panel b) who (λ i. i) (length ts) same_member;
     }
 
-    pub searched : Searched ts rs gs ms setting z
-    searched = record {
-      units = units_of_lem f setting group_sound is.agrees filled frame_ok frame_ok.start_low;
-      sized = keyless_size f setting group_sound is.agrees filled;
-      low = member_low _ _ _ _ _ _ _ _ told;
-    }
+    pub units_here : Units ts rs gs setting
+    units_here = units_of_lem f setting group_sound is.agrees filled frame_ok frame_ok.start_low
+
+    pub searched : Searched ts gs ms setting z
+    searched = record { sized = keyless_size f setting group_sound is.agrees filled; low = member_low _ _ _ _ _ _ _ _ told }
 
     module _ (k need : ℕ) (first : k ≡ first_step ts rs gs ms setting need) (n : need ≡ required fraction (length ms)) where
       step_is : least_step m f r old who fraction ≡ k

@@ -3,7 +3,7 @@
 // and are found once; what a step does is crate `rotation_step`, who leaves at the step that is found crate `rotation_leavers`.
 #![tactic(auto)]
 
-ghost use Rattle.std.specs.Prelude.{◌≡◌, ◌≤◌};
+ghost use Rattle.std.specs.Prelude.{◌≡◌, ◌≤◌, length};
 ghost use Rattle.rules.specs.Limits.{most_frame, fraction_scale};
 ghost use Rattle.rules.specs.Refusals.{◌then◌};
 ghost use Rattle.rules.specs.Draw.{frame_refusal};
@@ -13,13 +13,15 @@ ghost use Rattle.group_keeping.specs.Keeping.{keeping_of};
 ghost use Rattle.draw_key.specs.Methods.{method_of};
 ghost use Rattle.rotation_births.specs.Candidates.{births_of};
 ghost use Rattle.rotation.specs.Answer.{answer_from};
+ghost use Rattle.rotation.specs.Left.{Left};
 
-use draw_key::{Method, Setting};
+use draw_key::{Keyed, Method, Setting};
 use frame::Frame;
 use group_keeping::Keeping;
-use limits::{FRACTION_SCALE, MOST_FRAME, STEPS, THRESHOLD_SCALE};
+use limits::{FRACTION_SCALE, MOST_FRAME, THRESHOLD_SCALE};
 use refusals::Refusal;
 use rotation_births::Candidates;
+use rotation_step::Search;
 
 // What a rotation answers: the step, the new start and the count of the leavers.
 #[derive(Clone, Copy)]
@@ -36,6 +38,20 @@ fn required(fraction: u32, members: usize) -> usize
 {
     let thousandths = (fraction as usize) * members;
     thousandths.div_ceil(FRACTION_SCALE as usize)
+}
+
+// Writes who leaves at the first step at which at least `need` members do, if there is one.
+fn leave(numbers: &[u32], search: &Search, need: usize, leavers: &mut [u32]) -> Option<Rotated>
+    requires { (length numbers.now ≡ length search.now.keyed.turnovers.now) × (length search.now.members.now ≤ most_frame) × (length search.now.members.now ≤ length leavers.old) }
+    ensures { Left numbers.now search.now need leavers.old leavers.new result }
+{
+    let k = search.first_step(need)?;
+    let there = search.at(k);
+    Some(Rotated {
+        k,
+        start: there.keyed.setting.start,
+        count: rotation_leavers::write(numbers, &there, leavers),
+    })
 }
 
 // Rotates what refusals 1 to 6, 30, 7, 25 and 26 let pass, from the old start on.
@@ -62,34 +78,26 @@ fn turn(
     draw_gaps::fill(frame.turnovers, &marks, method, g.n, g.rest, &mut gaps);
     let mut places = [0usize; MOST_FRAME];
     let many = rotation_members::members(frame, &marks, candidates, &mut places);
-    let need = required(fraction, many);
-    let s = Setting {
-        method,
-        start: candidates.previous.start,
-        n: g.n,
-        rest: g.rest,
+    let keyed = Keyed {
+        turnovers: frame.turnovers,
+        randoms: frame.randoms,
+        gaps: &gaps,
+        setting: Setting {
+            method,
+            start: candidates.previous.start,
+            n: g.n,
+            rest: g.rest,
+        },
     };
-    let found = &places[..many];
-    let k = rotation_step::first_step(frame.turnovers, frame.randoms, &gaps, found, s, z, need);
-    if STEPS <= k {
-        return Err(Refusal::NoStep);
-    }
-    let at = rotation_step::setting_at(s, k);
-    let count = rotation_leavers::write(
-        frame.numbers,
-        frame.turnovers,
-        frame.randoms,
-        &gaps,
-        found,
-        at,
+    let search = Search {
+        keyed,
+        members: &places[..many],
         z,
-        leavers,
-    );
-    Ok(Rotated {
-        k,
-        start: at.start,
-        count,
-    })
+    };
+    match leave(frame.numbers, &search, required(fraction, many), leavers) {
+        Some(rotated) => Ok(rotated),
+        None => Err(Refusal::NoStep),
+    }
 }
 
 // Rotation by the keys of a method, with the group that a threshold and the take-all lists of up to two previous draws enlarge. Answers the smallest step,

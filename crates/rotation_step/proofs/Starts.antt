@@ -38,14 +38,15 @@ module _ (s : Setting) (k : ℕ) (at : Setting) (e : at ≡ setting_at s k) wher
 
 -- what the search that a step leads to says of the step
 module _ (q : Search) (k : ℕ) (r : Search) (m : Moved q k r) where
-  pub leaving_moved : of leaving r ≡ leaving q.keyed.turnovers.now q.keyed.randoms.now q.keyed.gaps.now q.members.now (setting_at q.keyed.setting k)
-  leaving_moved = rw (m.turnovers_are, m.randoms_are, m.gaps_are, m.members_are, m.setting_is)
+  pub word_moved : {A : Type 0} (word : List ℕ → List ℕ → List ℕ → List ℕ → Setting → A) → of word r
+      ≡ word q.keyed.turnovers.now q.keyed.randoms.now q.keyed.gaps.now q.members.now (setting_at q.keyed.setting k)
+  word_moved word = rw (m.turnovers_are, m.randoms_are, m.gaps_are, m.members_are, m.setting_is)
 
   module _ (need count : ℕ) (l : count ≡ of leaving r) where
     pub enough : need ≤ count → of enough_leave q need k ≡ true
     unfolding enough_leave
-    enough h = rw (← leaving_moved, ← l) (le-leb need count h)
+    enough h = rw (← word_moved leaving, ← l) (le-leb need count h)
 
     pub too_few : count < need → of enough_leave q need k ≡ false
     unfolding enough_leave
-    too_few h = rw (← leaving_moved, ← l) (lt-leb need count h)
+    too_few h = rw (← word_moved leaving, ← l) (lt-leb need count h)

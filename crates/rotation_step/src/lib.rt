@@ -15,9 +15,9 @@ use limits::{RANDOM_RANGE, STEP_LENGTH, STEPS};
 
 // What a step looks at: the units with their keys, the places of the members among them, and z, the number of the take-all units and of those to sample.
 #[derive(Clone, Copy)]
-pub struct Search<'a> {
+pub struct Search<'a, 'b> {
     pub keyed: Keyed<'a>,
-    pub members: &'a [usize],
+    pub members: &'b [usize],
     pub z: usize,
     pub ghost searched: { Searched keyed.turnovers.now keyed.gaps.now members.now keyed.setting z },
 }
@@ -33,11 +33,11 @@ pub fn setting_at(s: Setting, k: u32) -> Setting
     }
 }
 
-impl<'a> Search<'a> {
+impl<'a, 'b> Search<'a, 'b> {
     ghost use Rattle.rotation_step.specs.Moved.{of, Moved};
 
     // The same under the start that step k leads to.
-    pub fn at(&self, k: u32) -> Search<'a>
+    pub fn at(&self, k: u32) -> Search<'a, 'b>
         requires { k ≤ steps }
         ensures { Moved self.now k result }
     {

@@ -1,5 +1,5 @@
 -- `turn` meets its contract: what its callees ensure, put together by the laws of `Composition`.
-use mathlib.Core.Path.{sym, ap, ◌∙◌}
+use mathlib.Core.Path.{refl, sym, ap, ◌∙◌}
 use Prim.Native.Nat.{◌≤◌}
 use native.Mathlib.Omega.{arith}
 use lib.ListN.{length}
@@ -10,8 +10,7 @@ use Rattle.selection.proofs.Held.{held_room}
 use Rattle.group_keeping.specs.Keeping.{keeping_of}
 use Rattle.rotation_births.specs.Candidates.{births_of}
 use Rattle.rotation_members.proofs.Filling.{fill_held, fill_few}
-use Rattle.rotation_step.proofs.Starts.{moved}
-use Rattle.rotation.proofs.Composition.{frame_ok, lists_ok, ready, group_sound, searched, turn_refused, turn_given}
+use Rattle.rotation.proofs.Composition.{frame_ok, lists_ok, ready, group_sound, units_here, searched, turn_refused, turn_given}
 use Rattle.rotation.proofs.turn.Goals as goal
 
 pub find_enlarged-g-requires : goal.find_enlarged-g-requires
@@ -53,8 +52,8 @@ members-many-requires c =
       numbers_len = (whole.numbers_length, rw whole.numbers_length whole.units.few);
     }
 
-pub required-need-requires : goal.required-need-requires
-required-need-requires c =
+pub required-requires : goal.required-requires
+required-requires c =
     let b = births_of c.args.candidates.now in
     let p = keeping_of c.args.keeping.now in
     let whole = frame_ok c.args.method _ _ _ _ _ _ _ b p _ c.requires in
@@ -65,36 +64,25 @@ required-need-requires c =
 pub slice_bounds-places-end : goal.slice_bounds-places-end
 slice_bounds-places-end c = held_room (fill_held c.members-many.ensures.filled)
 
-pub slice_bounds-found-end : goal.slice_bounds-found-end
-slice_bounds-found-end c = sym (length-take-le c.members-many.result c.members-many.new.places (held_room (fill_held c.members-many.ensures.filled)))
+pub slice_bounds-search-end : goal.slice_bounds-search-end
+slice_bounds-search-end c = sym (length-take-le c.members-many.result c.members-many.new.places (held_room (fill_held c.members-many.ensures.filled)))
 
-pub first_step-k-requires : goal.first_step-k-requires
-first_step-k-requires c =
+pub invariant_of-keyed : goal.invariant_of-keyed
+invariant_of-keyed c =
     let b = births_of c.args.candidates.now in
     let p = keeping_of c.args.keeping.now in
     let held = fill_held c.members-many.ensures.filled in
-    searched c.args.method _ _ _ _ _ _ _ b p _ c.requires _ _ c.find_enlarged-g.ensures _ c.fill.ensures _ held.units_are
+    record { units = units_here c.args.method _ _ _ _ _ _ _ b p _ c.requires _ _ c.find_enlarged-g.ensures _ c.fill.ensures _ held.units_are }
 
-pub returns-then-k-ge-STEPS : goal.returns-then-k-ge-STEPS
-returns-then-k-ge-STEPS c =
+pub invariant_of-search : goal.invariant_of-search
+invariant_of-search c =
     let b = births_of c.args.candidates.now in
     let p = keeping_of c.args.keeping.now in
     let held = fill_held c.members-many.ensures.filled in
-    let many = length-take-le c.members-many.result c.members-many.new.places (held_room held) in
-    let need = c.required-need.ensures ∙ ap (required c.args.fraction) (sym many) in
-    let refused = turn_refused c.args.method _ _ _ _ _ _ _ b p _ c.requires _ _ c.find_enlarged-g.ensures _ c.fill.ensures _ held.units_are _ _
-    c.first_step-k.ensures need c.if-k-ge-STEPS.true in
-    record { result_value = refused.0; leavers_after = refused.1 }
+    record { searched = searched c.args.method _ _ _ _ _ _ _ b p _ c.requires _ _ c.find_enlarged-g.ensures _ c.fill.ensures _ held.units_are }
 
-pub setting_at-at-requires : goal.setting_at-at-requires
-setting_at-at-requires c =
-    let b = births_of c.args.candidates.now in
-    let p = keeping_of c.args.keeping.now in
-    let whole = frame_ok c.args.method _ _ _ _ _ _ _ b p _ c.requires in
-    (whole.start_low, omega arith)
-
-pub write-count-requires : goal.write-count-requires
-write-count-requires c =
+pub leave-requires : goal.leave-requires
+leave-requires c =
     let b = births_of c.args.candidates.now in
     let p = keeping_of c.args.keeping.now in
     let whole = frame_ok c.args.method _ _ _ _ _ _ _ b p _ c.requires in
@@ -102,19 +90,28 @@ write-count-requires c =
     let held = fill_held c.members-many.ensures.filled in
     let many = length-take-le c.members-many.result c.members-many.new.places (held_room held) in
     let few : c.members-many.result ≤ most_frame = omega (arith, fill_few c.members-many.ensures.filled, whole.numbers_length, whole.units.few) in
-    let asked = searched c.args.method _ _ _ _ _ _ _ b p _ c.requires _ _ c.find_enlarged-g.ensures _ c.fill.ensures _ held.units_are in
-    record {
-      searched = moved _ _ _ _ _ _ asked _ _ c.setting_at-at.ensures;
-      numbers_len = (whole.numbers_length, rw many few, rw many (omega (arith, c.members-many.ensures.upper_bound, lists.long)));
-    }
+    (whole.numbers_length, rw many few, rw many (omega (arith, c.members-many.ensures.upper_bound, lists.long)))
 
-pub returns : goal.returns
-returns c =
+pub returns-in-Some : goal.returns-in-Some
+returns-in-Some c =
     let b = births_of c.args.candidates.now in
     let p = keeping_of c.args.keeping.now in
     let held = fill_held c.members-many.ensures.filled in
     let many = length-take-le c.members-many.result c.members-many.new.places (held_room held) in
-    let need = c.required-need.ensures ∙ ap (required c.args.fraction) (sym many) in
+    let need = c.required.ensures ∙ ap (required c.args.fraction) (sym many) in
+    let left = c.in-Some.ensures in
     let turned = turn_given c.args.method _ _ _ _ _ _ _ b p _ c.requires _ _ c.find_enlarged-g.ensures _ c.fill.ensures _ held.units_are _ _
-    c.first_step-k.ensures need _ c.setting_at-at.ensures c.if-k-ge-STEPS.false _ c.write-count.ensures.value _ c.write-count.ensures.out_after in
-    record { result_value = turned.0; leavers_after = turned.1 }
+    left.step_is need _ refl left.low _ left.many _ left.written_are in
+    record { result_value = rw left.start_is turned.0; leavers_after = turned.1 }
+
+pub returns-in-None : goal.returns-in-None
+returns-in-None c =
+    let b = births_of c.args.candidates.now in
+    let p = keeping_of c.args.keeping.now in
+    let held = fill_held c.members-many.ensures.filled in
+    let many = length-take-le c.members-many.result c.members-many.new.places (held_room held) in
+    let need = c.required.ensures ∙ ap (required c.args.fraction) (sym many) in
+    let last = c.in-None.ensures in
+    let refused = turn_refused c.args.method _ _ _ _ _ _ _ b p _ c.requires _ _ c.find_enlarged-g.ensures _ c.fill.ensures _ held.units_are _ _
+    (sym last.0) need (omega arith) in
+    record { result_value = refused.0; leavers_after = last.1 ∙ refused.1 }
