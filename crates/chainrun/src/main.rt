@@ -78,10 +78,8 @@ fn run_stream(rt: &HostRuntime, stream: &[u8]) -> io::Result<()> {
         if !turned.more {
             return Ok(());
         }
-        let next = turned.job;
-        held = next;
-        let rest = stream_front::unread(unread);
-        unread = rest;
+        held = turned.job;
+        unread = stream_front::unread(unread);
     }
 }
 

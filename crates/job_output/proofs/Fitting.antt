@@ -1,9 +1,9 @@
 -- A part of the text laid behind what is laid already, where it has room.
 use Prim.Native.Nat.{ℕ, ◌+◌, ◌≤◌, ◌<◌}
 use mathlib.Core.Path.{◌≡◌, sym, ap, ◌∙◌}
-use mathlib.Core.List.{List, ◌++◌, append_assoc}
+use mathlib.Core.List.{List, ◌++◌}
 use lib.ListN.{length, take, drop}
-use lib.Seq.{paste, length-take-le}
+use lib.Seq.{length-take-le}
 use native.Mathlib.Omega.{arith}
 use borrow.Author.Tests.{lt-ltb, le-ltb}
 use Rattle.text_decimal.specs.Put.{laid_at}
@@ -23,11 +23,8 @@ module _ (out text : List ℕ) (at count : ℕ) (within : count ≤ length text)
   no_room h = simp (lt-ltb (length out) (at + length (take count text)) (omega (arith, bytes)))
 
   -- all bytes of a part copied
-  pub all_laid : (n : ℕ) → n ≡ count → at + count ≤ length out → paste out at text n ≡ fitted at (take count text) out
+  pub all_laid : at + count ≤ length out → take at out ++ (take count text ++ drop (at + count) out) ≡ fitted at (take count text) out
   unfolding laid_at
-  all_laid n e h =
+  all_laid h =
       let part = take count text in
-      ap (λ (k : ℕ). paste out at text k) e
-      ∙ append_assoc (take at out) part (drop (at + count) out)
-      ∙ ap (λ (k : ℕ). take at out ++ (part ++ drop (at + k) out)) (sym bytes)
-      ∙ sym (room out part at (omega (arith, bytes)))
+      ap (λ (k : ℕ). take at out ++ (part ++ drop (at + k) out)) (sym bytes) ∙ sym (room out part at (omega (arith, bytes)))

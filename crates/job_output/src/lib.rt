@@ -21,18 +21,13 @@ fn lay(text: &[u8; TEXT_ROOM], count: usize, out: &mut [u8], at: usize)
     requires { count ≤ length text.now }
     ensures { (count ≤ panel_room) × (out.new ≡ fitted at (take count text.now) out.old) }
 {
-    let bytes: &[u8] = text;
     if out.len() < at {
         return;
     }
     if out.len() - at < count {
         return;
     }
-    let mut i: usize = 0;
-    while i < count {
-        out[at + i] = bytes[i];
-        i += 1;
-    }
+    out[at..at + count].copy_from_slice(&text[..count]);
 }
 
 // Does the commands of a stream in turn, lays the text of each behind the one before as long as there is room, and answers the bytes of all.
@@ -51,10 +46,8 @@ fn pass(stream: &[u8], out: &mut [u8]) -> usize
         if !turned.more {
             return at;
         }
-        let next = turned.job;
-        held = next;
-        let rest = stream_front::unread(unread);
-        unread = rest;
+        held = turned.job;
+        unread = stream_front::unread(unread);
     }
 }
 

@@ -2,5 +2,5 @@
 use Rattle.std.proofs.Common.{length}
 use Rattle.chainrun.proofs.run_stream.Given as goal
 
-abbrev pub decreases-loop-next : goal.decreases-loop-next
-decreases-loop-next l = length l.unread
+abbrev pub decreases-loop-held : goal.decreases-loop-held
+decreases-loop-held l = length l.unread

@@ -16,8 +16,8 @@ returns-then-not-turned c = ends _ _ _ c.loop-unread.unread.now c.loop-unread.he
 
 pub loop-unread-smaller : goal.loop-unread-smaller
 loop-unread-smaller c = let more = sym c.turn-turned.ensures.goes ∙ not-false _ c.if-not-turned.false in
-    omega (arith, ap length c.unread-rest.ensures, rest_shorter _ c.loop-unread.unread.now (job_of c.loop-unread.held) more)
+    omega (arith, ap length c.unread-unread.ensures, rest_shorter _ c.loop-unread.unread.now (job_of c.loop-unread.held) more)
 
 pub loop-unread-preserved : goal.loop-unread-preserved
 loop-unread-preserved c = again _ _ _ c.loop-unread.unread.now c.loop-unread.held _ c.loop-unread.invariant c.turn-turned.result _ _ _ c.turn-turned.ensures c.lay.ensures.1 _
-    c.unread-rest.ensures (not-false _ c.if-not-turned.false) c.lay.ensures.0 c.lay.auto.out
+    c.unread-unread.ensures (not-false _ c.if-not-turned.false) c.lay.ensures.0 c.lay.auto.out

@@ -1,6 +1,6 @@
 -- Counted, then judged for room, then filled.
 use Prim.Native.Nat.{ℕ}
-use mathlib.Core.Path.{◌≡◌, refl, sym, ap, ◌∙◌}
+use mathlib.Core.Path.{◌≡◌, sym, ap, ◌∙◌}
 use mathlib.Core.Bool.{Bool}
 use Rattle.rules.specs.Refusals.{refuse, ◌then◌}
 use Rattle.rules.specs.Writing.{Lists, lists, whole_of, too_short, read_all_refusal, read_all_answer, read_all_lists}
