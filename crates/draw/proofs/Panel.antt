@@ -20,7 +20,7 @@ use Rattle.draw_key.specs.declared.Method.{Method}
 use Rattle.draw_key.specs.declared.Setting.{Setting}
 use Rattle.draw_key.specs.Methods.{method_of}
 use Rattle.draw_key.specs.Units.{has_key, Units}
-use Rattle.draw_list.specs.declared.Found.{Found}
+use Rattle.draw_list.specs.declared.found.Found.{Found}
 use Rattle.draw_list.specs.Found.{IsFound, passing, found_of, Passing}
 use Rattle.draw_list.proofs.Searched.{found_listed, found_passing, found_count}
 use Rattle.draw_list.proofs.Within.{within_is}
@@ -99,7 +99,7 @@ module _ {m : Method} {f : Frame} {z start : ℕ} {r : RulesGroup} {marks gs : L
     pub found_here : Passing (length f.turnovers) found
     found_here = found_passing f.turnovers f.randoms gs s z found w
 
-    pub found_size : count (passing found) found.count ≡ z
+    pub found_size : count (passing found) found.list.count ≡ z
     found_size = found_count f.turnovers f.randoms gs s z found w
 
     pub found_numbers : found_of found (λ i. get_or f.numbers i 0) ≡ panel_numbers (method_of m) f r start

@@ -12,7 +12,8 @@ ghost use Rattle.group_keeping.specs.Keeping.{keeping_of};
 ghost use Rattle.draw_key.specs.Methods.{method_of};
 ghost use Rattle.draw.specs.Answer.{answer_from, IsSize, numbers_over, weights_over};
 
-use draw_key::{Method, Setting};
+use draw_key::{Keyed, Method, Setting};
+use draw_panel::Weighed;
 use frame::Frame;
 use group::Group;
 use group_keeping::Keeping;
@@ -75,35 +76,29 @@ fn draw_with(
 {
     let g = group_kept::find_enlarged(frame.numbers, frame.turnovers, z, keeping, marks);
     draw_gaps::fill(frame.turnovers, marks, method, g.n, g.rest, gaps);
-    let s = Setting {
-        method,
-        start,
-        n: g.n,
-        rest: g.rest,
-    };
-    let found = draw_list::find(frame.turnovers, frame.randoms, gaps, s, z);
-    if found.sure {
-        draw_panel::write_found(
-            frame.numbers,
-            frame.turnovers,
-            marks,
-            s,
-            found,
-            panel,
-            weights,
-        );
-        return g;
-    }
-    draw_panel::write_ordered(
-        frame.numbers,
-        frame.turnovers,
-        frame.randoms,
+    let keyed = Keyed {
+        turnovers: frame.turnovers,
+        randoms: frame.randoms,
         gaps,
-        s,
-        marks,
-        panel,
-        weights,
-    );
+        setting: Setting {
+            method,
+            start,
+            n: g.n,
+            rest: g.rest,
+        },
+    };
+    match draw_list::find(&keyed, z) {
+        Some(found) => {
+            let weighed = Weighed {
+                numbers: frame.numbers,
+                turnovers: frame.turnovers,
+                marks,
+                setting: keyed.setting,
+            };
+            draw_panel::write_found(&weighed, &found, panel, weights);
+        }
+        None => draw_panel::write_ordered(frame.numbers, &keyed, marks, panel, weights),
+    }
     g
 }
 

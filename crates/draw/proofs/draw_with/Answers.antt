@@ -40,33 +40,28 @@ fill-requires-clause-turnovers_bound c =
     let parts = (enlarged_sound c.args.frame.now.numbers.now c.args.frame.now.turnovers.now c.args.z k.size_within (keeping_of c.args.keeping.now)).parts in
     (k.total, omega (arith, c.find_enlarged-g.ensures.agrees.size_is, parts, k.size_few))
 
-pub find-found-requires : goal.find-found-requires
-find-found-requires c = panels.units_here (drawing (kept_accepted _ _ _ _ _ _ c.requires.weights_value) c.find_enlarged-g.ensures c.fill.ensures)
+pub invariant_of-keyed : goal.invariant_of-keyed
+invariant_of-keyed c =
+    record { units = panels.units_here (drawing (kept_accepted _ _ _ _ _ _ c.requires.weights_value) c.find_enlarged-g.ensures c.fill.ensures) }
+
+pub invariant_of-weighed : goal.invariant_of-weighed
+invariant_of-weighed c =
+    let all = kept_accepted _ _ _ _ _ _ c.requires.weights_value in
+    let d = drawing all c.find_enlarged-g.ensures c.fill.ensures in
+    let marks_room : length c.args.frame.now.turnovers.now ≤ length c.find_enlarged-g.new.marks =
+    omega (arith, c.find_enlarged-g.auto.marks, c.requires.turnovers_in_bounds.1) in
+    record { weighable = panels.weighable d marks_room; numbered = all.drawn.frame_ok.numbers_length }
 
 pub write_found-requires : goal.write_found-requires
 write_found-requires c =
     let all = kept_accepted _ _ _ _ _ _ c.requires.weights_value in
     let d = drawing all c.find_enlarged-g.ensures c.fill.ensures in
-    let marks_room : length c.args.frame.now.turnovers.now ≤ length c.find_enlarged-g.new.marks =
-    omega (arith, c.find_enlarged-g.auto.marks, c.requires.turnovers_in_bounds.1) in
-    let w = c.find-found.ensures c.if-found.true in
+    let w = c.in-Some.ensures in
     let size = panels.found_size d _ w in
     record {
-      weighable = (panels.weighable d marks_room, all.drawn.frame_ok.numbers_length, panels.found_here d _ w);
+      passing = panels.found_here d _ w;
       count_in_bounds = (omega (arith, size, all.drawn.numbers_room), omega (arith, size, all.drawn.weights_room));
     }
-
-pub returns-then-found-clause-panel_after : goal.returns-then-found-clause-panel_after
-returns-then-found-clause-panel_after c =
-    let d = drawing (kept_accepted _ _ _ _ _ _ c.requires.weights_value) c.find_enlarged-g.ensures c.fill.ensures in
-    c.write_found.ensures.panel_after
-    ∙ ap (λ (xs : List ℕ). written 0 xs c.args.panel.now) (panels.found_numbers d _ (c.find-found.ensures c.if-found.true))
-
-pub returns-then-found-clause-weights_after : goal.returns-then-found-clause-weights_after
-returns-then-found-clause-weights_after c =
-    let d = drawing (kept_accepted _ _ _ _ _ _ c.requires.weights_value) c.find_enlarged-g.ensures c.fill.ensures in
-    c.write_found.ensures.weights_after
-    ∙ ap (λ (xs : List ℕ). written 0 xs c.args.weights.now) (panels.found_weights d _ (c.find-found.ensures c.if-found.true))
 
 pub write_ordered-requires : goal.write_ordered-requires
 write_ordered-requires c =
@@ -76,16 +71,26 @@ write_ordered-requires c =
     omega (arith, c.find_enlarged-g.auto.marks, c.requires.turnovers_in_bounds.1) in
     let size = panels.drawn_size d in
     record {
-      units = (panels.units_here d, panels.weighable d marks_room, panels.markable d);
+      markable = (panels.weighable d marks_room, panels.markable d);
       numbers_len = (all.drawn.frame_ok.numbers_length, omega (arith, size, all.drawn.numbers_room), omega (arith, size, all.drawn.weights_room));
     }
 
-pub returns-clause-panel_after : goal.returns-clause-panel_after
-returns-clause-panel_after c =
+pub returns-in-Some-clause-panel_after : goal.returns-in-Some-clause-panel_after
+returns-in-Some-clause-panel_after c =
+    let d = drawing (kept_accepted _ _ _ _ _ _ c.requires.weights_value) c.find_enlarged-g.ensures c.fill.ensures in
+    c.write_found.ensures.panel_after ∙ ap (λ (xs : List ℕ). written 0 xs c.args.panel.now) (panels.found_numbers d _ c.in-Some.ensures)
+
+pub returns-in-Some-clause-weights_after : goal.returns-in-Some-clause-weights_after
+returns-in-Some-clause-weights_after c =
+    let d = drawing (kept_accepted _ _ _ _ _ _ c.requires.weights_value) c.find_enlarged-g.ensures c.fill.ensures in
+    c.write_found.ensures.weights_after ∙ ap (λ (xs : List ℕ). written 0 xs c.args.weights.now) (panels.found_weights d _ c.in-Some.ensures)
+
+pub returns-in-None-clause-panel_after : goal.returns-in-None-clause-panel_after
+returns-in-None-clause-panel_after c =
     let d = drawing (kept_accepted _ _ _ _ _ _ c.requires.weights_value) c.find_enlarged-g.ensures c.fill.ensures in
     c.write_ordered.ensures.panel_after ∙ ap (λ (xs : List ℕ). written 0 xs c.args.panel.now) (panels.drawn_numbers d)
 
-pub returns-clause-weights_after : goal.returns-clause-weights_after
-returns-clause-weights_after c =
+pub returns-in-None-clause-weights_after : goal.returns-in-None-clause-weights_after
+returns-in-None-clause-weights_after c =
     let d = drawing (kept_accepted _ _ _ _ _ _ c.requires.weights_value) c.find_enlarged-g.ensures c.fill.ensures in
     c.write_ordered.ensures.weights_after ∙ ap (λ (xs : List ℕ). written 0 xs c.args.weights.now) (panels.drawn_weights_lem d)
