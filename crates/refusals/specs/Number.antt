@@ -3,8 +3,6 @@ use Rattle.std.specs.Prelude.{ℕ, Result, Ok, Err}
 use Rattle.rules.specs.Refusals.{Judged}
 use Rattle.refusals.specs.declared.Refusal.{Refusal}
 use Rattle.refusals.specs.declared.Refusal.TheVariants.{FrameLists, UnitNumbers, Turnovers, RandomNumbers, PanelSize, ResultBuffer, OldPanel, NoStep, UnitLists, BaseWeights, Shares, StartIndex, Relatives, Sectors, StreamLength, UnknownCommand, CutShort, Place, State, FrameFull, LowWeight, WeightSum, FigureRange, ClosesSpent, TestLoad, Sample, RegisterLine, RegisterRoom, SheetLine, Writing, PreviousSample, Births, YearRoom, OutsideShare, PreviousLists}
-use Rattle.refusals.specs.declared.Verdict.{Verdict}
-use Rattle.refusals.specs.declared.Verdict.TheVariants.{Accepted, Refused}
 
 abbrev pub number_of : Refusal → ℕ
 -- "frame lists unequal, empty or over 16,384"
@@ -77,11 +75,6 @@ number_of YearRoom = 28
 number_of OutsideShare = 29
 -- document 02, [9]: "γ is 0 or over 1,000, or a previous list is over 100 or not rising"
 number_of PreviousLists = 30
-
--- 0 where no refusal applies
-abbrev pub verdict_of : Verdict → ℕ
-verdict_of Accepted = 0
-verdict_of (Refused why) = number_of why
 
 -- what a group of tests finds: 0 where no refusal applies, else the number of the first that does
 abbrev pub refusal_of : Result Unit Refusal → ℕ

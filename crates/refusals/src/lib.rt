@@ -1,4 +1,4 @@
-// Document 01's refusals, one variant a case, and what a test of the input says.
+// Document 01's refusals, one variant a case with its number. A group of tests answers Result<(), Refusal>, the first refusal that applies.
 #![tactic(auto)]
 
 ghost use Rattle.std.specs.Prelude.{◌≡◌};
@@ -41,13 +41,6 @@ pub enum Refusal {
     YearRoom = 28,
     OutsideShare = 29,
     PreviousLists = 30,
-}
-
-// What a group of tests finds: the first refusal that applies, or none.
-#[derive(Clone, Copy)]
-pub enum Verdict {
-    Accepted,
-    Refused(Refusal),
 }
 
 impl Refusal {
