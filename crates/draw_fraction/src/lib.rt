@@ -24,6 +24,8 @@ fn turned(f: Fraction) -> Fraction
 }
 
 // x < y. The two guards are "a remainder of 0 is the least": turned upside down it has the denominator 0 and is the greatest.
+// That the two functions call each other is a form that document 01 names.
+#[cycle(above_below)]
 pub fn below(x: Fraction, y: Fraction) -> bool
     ensures { result ≡ fraction_below x.num x.den y.num y.den }
 {
@@ -41,7 +43,29 @@ pub fn below(x: Fraction, y: Fraction) -> bool
     if whole_y < whole_x {
         return false;
     }
-    below(turned(y), turned(x))
+    above(turned(x), turned(y))
+}
+
+// v < u, likewise.
+#[cycle(above_below)]
+pub fn above(u: Fraction, v: Fraction) -> bool
+    ensures { result ≡ fraction_below v.num v.den u.num u.den }
+{
+    if v.den == 0 {
+        return false;
+    }
+    if u.den == 0 {
+        return 0 < u.num;
+    }
+    let whole_u = u.num / u.den;
+    let whole_v = v.num / v.den;
+    if whole_v < whole_u {
+        return true;
+    }
+    if whole_u < whole_v {
+        return false;
+    }
+    below(turned(u), turned(v))
 }
 
 // a < b for a caller that knows the whole parts, p of a and q of b: a pass over many fractions divides once for each, and not again
@@ -58,14 +82,14 @@ pub fn below_by_parts(a: Fraction, p: u64, b: Fraction, q: u64) -> bool
     }
     let rest_a = a.num - p * a.den;
     let rest_b = b.num - q * b.den;
-    below(
-        Fraction {
-            num: b.den,
-            den: rest_b,
-        },
+    above(
         Fraction {
             num: a.den,
             den: rest_a,
+        },
+        Fraction {
+            num: b.den,
+            den: rest_b,
         },
     )
 }

@@ -30,4 +30,4 @@ pub returns-then-q-p : goal.returns-then-q-p
 returns-then-q-p c = sym (whole_more _ _ _ _ (search rules) (search rules) (search rules))
 
 pub returns : goal.returns
-returns c = c.below.ensures ∙ parts_turned _ _ _ _ _ _ c.requires.2 c.requires.3 (search rules) (search rules)
+returns c = c.above.ensures ∙ parts_turned _ _ _ _ _ _ c.requires.2 c.requires.3 (search rules) (search rules)
