@@ -13,7 +13,7 @@ use draw_panel::told;
 use limits::{MOST_FRAME, MOST_PANEL};
 use rotation_step::Search;
 
-// Lists the places of the members that are not sampled in the front of `places`, and gives their number.
+// Lists the places of the members that are not sampled in the front of `places`, and gives their number. (No heap: the caller lends the room.)
 fn list(search: &Search, places: &mut [usize]) -> usize
     requires { length search.now.members.now ≤ length places.old }
     ensures { of Listed search.now places.old places.new result }

@@ -39,7 +39,7 @@ fn is_member(
 }
 
 // Lists the members' places, rising, in the front of `places`, and gives their number. Frame, old panel and births rise, so one pass goes through the three
-// side by side. Who is take-all is told by the marks.
+// side by side. Who is take-all is told by the marks. (No heap: the caller lends the room, and the number says how much of it is filled.)
 pub fn members(frame: &Frame, marks: &[u8], candidates: &Candidates, places: &mut [usize]) -> usize
     requires numbers_value { (rising frame.now.numbers.now ≡ true) × (rising candidates.now.panel.now ≡ true) × (rising candidates.now.births.now ≡ true) }
     requires judgeable { Judgeable frame.now.turnovers.now frame.now.randoms.now marks.now candidates.now.previous }

@@ -1,5 +1,5 @@
 // Two rising lists gone through side by side: a number of the one is sought in the other from where the last search stopped. Old panel and births are sought
-// in a frame's numbers so, and the births' test seeks the frame's numbers in the births' order.
+// in a frame's numbers so, and the births' test seeks the frame's numbers in the births' order. (A search by halves for each unit costs a logarithm more.)
 #![tactic(auto)]
 
 ghost use Rattle.std.specs.Prelude.{◌≡◌, leb, position};

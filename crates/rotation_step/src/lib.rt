@@ -54,7 +54,7 @@ impl<'a, 'b> Search<'a, 'b> {
         }
     }
 
-    // How many members are not sampled.
+    // How many members are not sampled. (The library's filter and count were tried: that the closure may be called at each member was not shown.)
     fn leaving(&self) -> usize
         ensures { result ≡ of leaving self.now }
     {
