@@ -32,10 +32,10 @@ pub fn on_draw(job: Job, size: u8, start: u32) -> Stepped
         &mut weights,
     );
     match answer {
-        Answer::Refused(why) => said(job, Saying::Refused(why)),
+        Answer::Refused(why) => said(job, Err(why)),
         Answer::Drawn { n: _, rest: _ } => Stepped {
             job: job_state::drawn(job, z, weights),
-            says: Saying::Panel,
+            says: Ok(Saying::Panel),
             numbers: panel,
         },
     }

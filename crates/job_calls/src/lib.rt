@@ -18,7 +18,7 @@ pub fn on_open(job: Job, start: u64) -> Stepped
 {
     let size = within(job.size, MOST_PANEL);
     if size == 0 {
-        return said(job, Saying::Refused(Refusal::State));
+        return said(job, Err(Refusal::State));
     }
     let panel = job.panel;
     let shares = job.shares;
@@ -26,10 +26,10 @@ pub fn on_open(job: Job, start: u64) -> Stepped
     let opened = chain_open::open(&panel[..size], &shares[..size], &pending[..size], start);
     let answer = opened.answer;
     match answer {
-        Opening::Refused(why) => said(job, Saying::Refused(why)),
+        Opening::Refused(why) => said(job, Err(why)),
         Opening::Accepted => {
             let chain = opened.chain;
-            said(with_chain(job, chain), Saying::Nothing)
+            said(with_chain(job, chain), Ok(Saying::Nothing))
         }
     }
 }
@@ -50,7 +50,7 @@ pub fn on_call(job: Job, kind: Kind) -> Stepped
 {
     let has_chain = job.is_open;
     if !has_chain {
-        return said(job, Saying::Refused(Refusal::State));
+        return said(job, Err(Refusal::State));
     }
     let size = within(job.size, MOST_PANEL);
     let pending = job.pending;
@@ -58,10 +58,10 @@ pub fn on_call(job: Job, kind: Kind) -> Stepped
     let answered = chain.call(kind, &pending[..size]);
     let answer = answered.answer;
     match answer {
-        Answer::Refused(why) => said(job, Saying::Refused(why)),
+        Answer::Refused(why) => said(job, Err(why)),
         Answer::Figure(f) => {
             let next = answered.chain;
-            said(with_chain(job, next), figure_said(kind, f))
+            said(with_chain(job, next), Ok(figure_said(kind, f)))
         }
     }
 }
