@@ -24,7 +24,7 @@ use Rattle.draw.specs.Answer.{answer_from}
 use Rattle.draw.proofs.Intended.{z_numbers, z_weights}
 use Rattle.job_state.specs.declared.Job.{Job}
 use Rattle.job_state.specs.declared.Stepped.{Stepped}
-use Rattle.job_state.specs.declared.Saying.TheVariants.{Refused, Panel}
+use Rattle.job_state.specs.declared.Saying.TheVariants.{Panel}
 use Rattle.job_state.specs.State.{job_of}
 use Rattle.job_state.specs.Steps.{each, panel_held, job_next, plain_step, Steps}
 use Rattle.job_state.proofs.FirstPlaces.{Sized, lent}
@@ -74,7 +74,7 @@ module _ (j : Job) (z start : ℕ) (places : Sized j) (units : ℕ) (e : units �
         sym (ap answer_from t) ∙ is ∙ ap (λ (y : Frame). draw_answer y z start (each 0) (each 0)) same_frame
         ∙ ap (λ (n : ℕ). judged n answer) (room f z start)
 
-    pub draw_refused : (r : Stepped) (why : Refusal) → told ≡ Err why → r ≡ plain_step j (Refused why)
+    pub draw_refused : (r : Stepped) (why : Refusal) → told ≡ Err why → r ≡ plain_step j (Err why)
         → Steps j (Command.draw z start) r
     unfolding step on_draw
     draw_refused r why t p =
@@ -83,7 +83,7 @@ module _ (j : Job) (z start : ℕ) (places : Sized j) (units : ℕ) (e : units �
 
     pub draw_accepted : (a : Sampled) (left : Job) (ns ws : List ℕ) → told ≡ Ok a → ns ≡ draw_numbers part z start (each 0) (each 0)
         → ws ≡ draw_weights part z start (each 0) (each 0) → left ≡ panel_held j z ws
-        → Steps j (Command.draw z start) (record { job = left; says = Panel; numbers = ns })
+        → Steps j (Command.draw z start) (record { job = left; says = Ok Panel; numbers = ns })
     unfolding step on_draw draw_numbers_by draw_weights_by
     draw_accepted a left ns ws t d w l =
         let none = (given_tells (frame_refusal f z start) answer (record { sample_size = a.n; rest = a.rest }) (answered _ t)).0 in

@@ -28,10 +28,10 @@ pub fn on_draw(job: Job, size: u8, start: u32) -> Stepped
         randoms: &randoms[..units],
     };
     match draw::draw(&frame, z, start, &mut panel, &mut weights) {
-        Err(why) => said(job, Saying::Refused(why)),
+        Err(why) => said(job, Err(why)),
         Ok(_) => Stepped {
             job: job_state::drawn(job, z, weights),
-            says: Saying::Panel,
+            says: Ok(Saying::Panel),
             numbers: panel,
         },
     }

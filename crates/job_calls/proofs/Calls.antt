@@ -28,7 +28,7 @@ use Rattle.chain_open.specs.Opened.{opening_of}
 use Rattle.job_state.specs.declared.Job.{Job}
 use Rattle.job_state.specs.declared.Stepped.{Stepped}
 use Rattle.job_state.specs.declared.Saying.{Saying}
-use Rattle.job_state.specs.declared.Saying.TheVariants.{Refused, Nothing}
+use Rattle.job_state.specs.declared.Saying.TheVariants.{Nothing}
 use Rattle.job_state.specs.State.{job_of, saying_by}
 use Rattle.job_state.specs.Steps.{each, chain_held, chain_called, job_next, plain_step, numbers_beside, Steps, chain_opened}
 use Rattle.job_state.proofs.FirstPlaces.{Sized, lent, named}
@@ -48,7 +48,7 @@ module _ (j : Job) where
   next_kind Kind.Quarter = refl
   next_kind Kind.Close = refl
 
-said_kind : (kind : Kind) (ps : List ℕ) (f : ℕ) (ns ws : List ℕ) → saying_by (saying_of kind f) ns ws ≡ Judged.given (figure_said (call_by kind ps) f)
+said_kind : (kind : Kind) (ps : List ℕ) (f : ℕ) (ns ws : List ℕ) → saying_by (Ok (saying_of kind f)) ns ws ≡ Judged.given (figure_said (call_by kind ps) f)
 said_kind Kind.Quarter ps f ns ws = refl
 said_kind Kind.Close ps f ns ws = refl
 
@@ -69,7 +69,7 @@ module _ (j : Job) (kind : Kind) (r : Stepped) where
   abbrev kept : Bool → Step
   kept isOpen = on_call (job_of j) (cond isOpen (OpenChain.current held) OpenChain.none) call
 
-  pub no_chain : not j.is_open ≡ true → r ≡ plain_step j (Refused State) → Steps j (command_by kind) r
+  pub no_chain : not j.is_open ≡ true → r ≡ plain_step j (Err State) → Steps j (command_by kind) r
   no_chain o p =
       refused_step j (command_by kind) 19 (job_of j) Said.nothing r (by_kind j kind ∙ ap kept (not-true j.is_open o)) State refl p
 
@@ -87,13 +87,13 @@ module _ (j : Job) (kind : Kind) (r : Stepped) where
         ≡ step_by (call_refusal held call) (job_of j) (with_chain (job_of j) (accepted held call)) (figure_said call figure)
     by_call = by_kind j kind ∙ ap kept (not-false j.is_open o)
 
-    pub call_refused : (why : Refusal) → told.answer ≡ Err why → r ≡ plain_step j (Refused why) → Steps j (command_by kind) r
+    pub call_refused : (why : Refusal) → told.answer ≡ Err why → r ≡ plain_step j (Err why) → Steps j (command_by kind) r
     call_refused why t p =
         let number = refused_tells (call_refusal held call) (number_of why) figure (answered _ t) in
         refused_step j (command_by kind) (call_refusal held call) _ _ r by_call why number p
 
     pub call_figure : (f : ℕ) → told.answer ≡ Ok f → record_of told.chain ≡ after held (call_by kind (take size j.pending))
-        → (left : Job) → left ≡ chain_held j told.chain → (s : Saying) → s ≡ saying_of kind f → r ≡ plain_step left s → Steps j (command_by kind) r
+        → (left : Job) → left ≡ chain_held j told.chain → (s : Saying) → s ≡ saying_of kind f → r ≡ plain_step left (Ok s) → Steps j (command_by kind) r
     unfolding after
     call_figure f t k left l s says p =
         let n = given_tells (call_refusal held call) figure f (answered _ t) in
@@ -103,8 +103,8 @@ module _ (j : Job) (kind : Kind) (r : Stepped) where
         let ruled = ap job_of next ∙ chain_held_lem j (accepted held call) places.panel in
         let is-next : left ≡ job_next j (command_by kind) = l ∙ ap (λ (x : Chain). chain_held j (chain_from x)) moves ∙ sym next in
         let said : s ≡ saying_of kind figure = says ∙ ap (saying_of kind) n.1 in
-        plain_step_lem j (command_by kind) (call_refusal held call) _ _ r by_call n.0 ruled s left is-next p
-        (λ ns ws. ap (λ (x : Saying). saying_by x ns ws) said ∙ said_kind kind _ figure ns ws) (none_drawn kind _ figure)
+        plain_step_lem j (command_by kind) (call_refusal held call) _ _ r by_call n.0 ruled (Ok s) left is-next p
+        (λ ns ws. ap (λ (x : Saying). saying_by (Ok x) ns ws) said ∙ said_kind kind _ figure ns ws) (none_drawn kind _ figure)
 
 -- ---- open: 19 without a panel, and else what the opening answers
 module _ (j : Job) (start : ℕ) (r : Stepped) (places : Sized j) (size : ℕ) (e : size ≡ min j.size most_panel) where
@@ -117,7 +117,7 @@ module _ (j : Job) (start : ℕ) (r : Stepped) (places : Sized j) (size : ℕ) (
   abbrev opened : Chain
   opened = open_record (shared (job_of j).panel (job_of j).shares) (job_of j).pending start
 
-  pub no_panel : size ≡ 0 → r ≡ plain_step j (Refused State) → Steps j (Command.opens start) r
+  pub no_panel : size ≡ 0 → r ≡ plain_step j (Err State) → Steps j (Command.opens start) r
   unfolding step on_open
   no_panel z p =
       let none : length (take j.size j.panel) ≤ 0 = omega (arith, named j.panel j.size most_panel places.panel) in
@@ -141,17 +141,17 @@ module _ (j : Job) (start : ℕ) (r : Stepped) (places : Sized j) (size : ℕ) (
         let p = lent j.pending size j.size most_panel places.pending e in
         sym (ap opening_of t) ∙ a ∙ cc
 
-    pub open_refused : (why : Refusal) → told ≡ Err why → r ≡ plain_step j (Refused why) → Steps j (Command.opens start) r
+    pub open_refused : (why : Refusal) → told ≡ Err why → r ≡ plain_step j (Err why) → Steps j (Command.opens start) r
     unfolding step on_open
     open_refused why t p =
         let number = refused_tells opening (number_of why) opened (told_of _ t) in
         refused_step j _ (without then opening) _ _ r refl why (number ∙ sym panel_first) p
 
-    pub open_accepted : (c : CodeChain) → told ≡ Ok c → (left : Job) → left ≡ chain_held j c → r ≡ plain_step left Nothing
+    pub open_accepted : (c : CodeChain) → told ≡ Ok c → (left : Job) → left ≡ chain_held j c → r ≡ plain_step left (Ok Nothing)
         → Steps j (Command.opens start) r
     unfolding step on_open
     open_accepted c t left l p =
         let n = given_tells opening opened (record_of c) (told_of _ t) in
         let is-next : left ≡ chain_opened j start = l ∙ ap (λ (x : Chain). chain_held j (chain_from x)) n.1 in
-        plain_step_lem j _ (without then opening) _ _ r refl (panel_first ∙ n.0) (chain_held_lem j opened places.panel) Nothing
+        plain_step_lem j _ (without then opening) _ _ r refl (panel_first ∙ n.0) (chain_held_lem j opened places.panel) (Ok Nothing)
         left is-next p (λ ns ws. refl) refl

@@ -17,15 +17,15 @@ pub fn on_open(job: Job, start: u64) -> Stepped
 {
     let size = within(job.size, MOST_PANEL);
     if size == 0 {
-        return said(job, Saying::Refused(Refusal::State));
+        return said(job, Err(Refusal::State));
     }
     let panel = job.panel;
     let shares = job.shares;
     let pending = job.pending;
     let opened = chain_open::open(&panel[..size], &shares[..size], &pending[..size], start);
     match opened {
-        Err(why) => said(job, Saying::Refused(why)),
-        Ok(chain) => said(with_chain(job, chain), Saying::Nothing),
+        Err(why) => said(job, Err(why)),
+        Ok(chain) => said(with_chain(job, chain), Ok(Saying::Nothing)),
     }
 }
 
@@ -45,7 +45,7 @@ pub fn on_call(job: Job, kind: Kind) -> Stepped
 {
     let has_chain = job.is_open;
     if !has_chain {
-        return said(job, Saying::Refused(Refusal::State));
+        return said(job, Err(Refusal::State));
     }
     let size = within(job.size, MOST_PANEL);
     let pending = job.pending;
@@ -53,10 +53,10 @@ pub fn on_call(job: Job, kind: Kind) -> Stepped
     let answered = chain.call(kind, &pending[..size]);
     let answer = answered.answer;
     match answer {
-        Err(why) => said(job, Saying::Refused(why)),
+        Err(why) => said(job, Err(why)),
         Ok(f) => {
             let next = answered.chain;
-            said(with_chain(job, next), figure_said(kind, f))
+            said(with_chain(job, next), Ok(figure_said(kind, f)))
         }
     }
 }

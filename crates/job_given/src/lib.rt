@@ -15,14 +15,14 @@ pub fn on_unit(job: Job, number: u32, turnover: u64, random: u32) -> Stepped
 {
     let at = job.units;
     if MOST_HELD <= at {
-        return said(job, Saying::Refused(Refusal::FrameFull));
+        return said(job, Err(Refusal::FrameFull));
     }
     let mut next = job;
     next.numbers[at] = number;
     next.turnovers[at] = turnover;
     next.randoms[at] = random;
     next.units = at + 1;
-    said(next, Saying::Nothing)
+    said(next, Ok(Saying::Nothing))
 }
 
 // 3: a share of a unit of the panel.
@@ -32,11 +32,11 @@ pub fn on_share(job: Job, place: u8, share: u16) -> Stepped
     let at = place as usize;
     let size = within(job.size, MOST_PANEL);
     if size <= at {
-        return said(job, Saying::Refused(Refusal::Place));
+        return said(job, Err(Refusal::Place));
     }
     let mut next = job;
     next.shares[at] = share as u32;
-    said(next, Saying::Nothing)
+    said(next, Ok(Saying::Nothing))
 }
 
 // 4: a relative of a unit of the panel.
@@ -46,9 +46,9 @@ pub fn on_relative(job: Job, place: u8, relative: u32) -> Stepped
     let at = place as usize;
     let units = within(job.size, MOST_PANEL);
     if units <= at {
-        return said(job, Saying::Refused(Refusal::Place));
+        return said(job, Err(Refusal::Place));
     }
     let mut next = job;
     next.pending[at] = relative;
-    said(next, Saying::Nothing)
+    said(next, Ok(Saying::Nothing))
 }

@@ -11,7 +11,7 @@ use Rattle.rules.specs.Job.{Step, step_by, step}
 use Rattle.rules.specs.Job as rules
 use Rattle.job_state.specs.declared.Job.{Job}
 use Rattle.job_state.specs.declared.Saying.{Saying}
-use Rattle.job_state.specs.declared.Saying.TheVariants.{Refused}
+use Rattle.std.proofs.Common.{Result, Err}
 use Rattle.job_state.specs.declared.Stepped.{Stepped}
 use Rattle.job_state.specs.State.{job_of, saying_by, saying_from, step_from}
 use Rattle.job_state.specs.Steps.{each, plain_step, job_next, job_after, numbers_beside, Steps}
@@ -30,7 +30,7 @@ by_step j command r done e s p ns =
 module _ (j : Job) (command : Command) (n : ℕ) (left : rules.Job) (says : rules.Saying) (r : Stepped)
     (by : step (job_of j) command ≡ step_by n (job_of j) left says) where
   -- "A refusal … changes nothing"
-  pub refused_step : (why : Refusal) → number_of why ≡ n → r ≡ plain_step j (Refused why) → Steps j command r
+  pub refused_step : (why : Refusal) → number_of why ≡ n → r ≡ plain_step j (Err why) → Steps j command r
   refused_step why e p = go n e by
     where
       go : (m : ℕ) → number_of why ≡ m → step (job_of j) command ≡ step_by m (job_of j) left says → Steps j command r
@@ -43,7 +43,7 @@ module _ (j : Job) (command : Command) (n : ℕ) (left : rules.Job) (says : rule
     accepted_step p s ns = by_step j command r (step_by 0 (job_of j) left says) (rw e at by) (cc) p ns
 
     -- one that draws no panel
-    pub plain_step_lem : (s : Saying) (next : Job) → next ≡ job_next j command → r ≡ plain_step next s
+    pub plain_step_lem : (s : Result Saying Refusal) (next : Job) → next ≡ job_next j command → r ≡ plain_step next s
         → ((ns ws : List ℕ) → saying_by s ns ws ≡ Judged.given says) → numbers_beside (Judged.given says) ≡ each 0 → Steps j command r
     plain_step_lem s next k p said none =
         accepted_step (ap (λ (x : Stepped). x.job) p ∙ k) (ap saying_from p ∙ said _ _) (ap (λ (x : Stepped). x.numbers) p ∙ sym none)

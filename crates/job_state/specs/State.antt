@@ -1,5 +1,6 @@
 -- Document 01, "Job stream": what the code's job and its steps are in the definitions of `rules`.
-use Rattle.std.specs.Prelude.{ℕ, cond, List, take}
+use Rattle.std.specs.Prelude.{ℕ, cond, List, take, Result, Ok, Err}
+use Rattle.refusals.specs.declared.Refusal.{Refusal}
 use Rattle.refusals.specs.Number.{number_of}
 use Rattle.rules.specs.Refusals.{Judged}
 use Rattle.rules.specs.TakeAll.{frame}
@@ -8,7 +9,7 @@ use Rattle.chain.specs.Record.{record_of}
 use Rattle.job_state.specs.declared.Job.{Job}
 use Rattle.job_state.specs.declared.Stepped.{Stepped}
 use Rattle.job_state.specs.declared.Saying.{Saying}
-use Rattle.job_state.specs.declared.Saying.TheVariants.{Refused, Nothing, Panel, Quarter, Close}
+use Rattle.job_state.specs.declared.Saying.TheVariants.{Nothing, Panel, Quarter, Close}
 
 -- The code's job. A number of units or a panel size beyond the places of the arrays is read as all of them.
 abbrev pub job_of : Job → rules.Job
@@ -22,12 +23,12 @@ job_of j =
     }
 
 -- what a command says, with the unit numbers and the W of the panel
-abbrev pub saying_by : Saying → List ℕ → List ℕ → Judged rules.Saying
-saying_by (Refused why) numbers weights = Judged.refused (number_of why)
-saying_by Nothing numbers weights = Judged.given rules.Saying.nothing
-saying_by Panel numbers weights = Judged.given (rules.Saying.panel_drawn numbers weights)
-saying_by (Quarter f) numbers weights = Judged.given (rules.Saying.quarter_figure f)
-saying_by (Close f) numbers weights = Judged.given (rules.Saying.close_figure f)
+abbrev pub saying_by : Result Saying Refusal → List ℕ → List ℕ → Judged rules.Saying
+saying_by (Err why) numbers weights = Judged.refused (number_of why)
+saying_by (Ok Nothing) numbers weights = Judged.given rules.Saying.nothing
+saying_by (Ok Panel) numbers weights = Judged.given (rules.Saying.panel_drawn numbers weights)
+saying_by (Ok (Quarter f)) numbers weights = Judged.given (rules.Saying.quarter_figure f)
+saying_by (Ok (Close f)) numbers weights = Judged.given (rules.Saying.close_figure f)
 
 -- what the code's step says: a panel is that of the job it leaves
 abbrev pub saying_from : Stepped → Judged rules.Saying

@@ -1,6 +1,7 @@
 -- Document 01, "Job stream", every place: what a command leaves of the code's job and hands back beside it, whole. `job_of` (State.antt) reads the
 -- first places of the arrays alone, and the chain only where it is open; here each place and each field is given from what came in.
-use Rattle.std.specs.Prelude.{ℕ, ◌+◌, true, false, ◌≡◌, List, set, replicate}
+use Rattle.std.specs.Prelude.{ℕ, ◌+◌, true, false, ◌≡◌, List, set, replicate, Result}
+use Rattle.refusals.specs.declared.Refusal.{Refusal}
 use Rattle.rules.specs.Limits.{most_held, most_panel, share_scale}
 use Rattle.rules.specs.Refusals.{Judged, written}
 use Rattle.rules.specs.TakeAll.{take_all_group}
@@ -142,7 +143,7 @@ job_next j Command.close = chain_called j (Call.close (job_of j).pending)
 
 -- ---- the step
 -- a step that draws no panel: its unit numbers are 0
-abbrev pub plain_step : Job → Saying → Stepped
+abbrev pub plain_step : Job → Result Saying Refusal → Stepped
 plain_step j says = record { job = j; says = says; numbers = each 0 }
 
 -- "A refusal … changes nothing": the job that came in, whole, after a refusal, and else the next

@@ -26,21 +26,20 @@ pub struct Job {
     pub is_open: bool,
 }
 
-// What a command says. The panel's unit numbers and W stand beside it, since an enum holds no array.
+// What a command that is accepted says. The panel's unit numbers and W stand beside it, since an enum holds no array.
 #[derive(Clone, Copy)]
 pub enum Saying {
-    Refused(Refusal),
     Nothing,
     Panel,
     Quarter(u64),
     Close(u64),
 }
 
-// The job that a command leaves, what it says, and the unit numbers of a drawn panel.
+// The job that a command leaves, what it says or the refusal, and the unit numbers of a drawn panel.
 #[derive(Clone, Copy)]
 pub struct Stepped {
     pub job: Job,
-    pub says: Saying,
+    pub says: Result<Saying, Refusal>,
     pub numbers: [u32; MOST_PANEL],
 }
 
@@ -48,14 +47,11 @@ pub struct Stepped {
 pub fn within(count: usize, places: usize) -> usize
     ensures { result ≡ min count places }
 {
-    if places < count {
-        return places;
-    }
-    count
+    count.min(places)
 }
 
 // A step that draws no panel.
-pub fn said(job: Job, says: Saying) -> Stepped
+pub fn said(job: Job, says: Result<Saying, Refusal>) -> Stepped
     ensures { result ≡ plain_step job says }
 {
     let numbers = [0u32; MOST_PANEL];

@@ -8,6 +8,8 @@ use Rattle.text_lines.specs.Laid.{laid, laid_count, Lays}
 use Rattle.rules.specs.Refusals.{Judged, written}
 use Rattle.rules.specs.Job as rules
 use Rattle.job_state.specs.declared.Stepped.{Stepped}
+use Rattle.std.proofs.Common.{Result, Ok}
+use Rattle.refusals.specs.declared.Refusal.{Refusal}
 use Rattle.job_state.specs.declared.Saying.{Saying}
 use Rattle.job_state.specs.State.{saying_from, saying_by}
 
@@ -20,6 +22,11 @@ laid_all room text want before after r e h l =
     (l.0 ∙ rw fits (ap length e), l.1 ∙ rw fits (ap (λ (t : List ℕ). written 0 t before) e))
 
 -- what follows from a step that says x
-pub says : {A : Type 0} (f : Judged rules.Saying → A) (s : Stepped) (x : Saying) → s.says ≡ x
+pub says : {A : Type 0} (f : Judged rules.Saying → A) (s : Stepped) (x : Result Saying Refusal) → s.says ≡ x
     → f (saying_by x (take s.job.size s.numbers) (take s.job.size s.job.panel)) ≡ f (saying_from s)
-says f s x e = ap (λ (y : Saying). f (saying_by y (take s.job.size s.numbers) (take s.job.size s.job.panel))) (sym e)
+says f s x e = ap (λ (y : Result Saying Refusal). f (saying_by y (take s.job.size s.numbers) (take s.job.size s.job.panel))) (sym e)
+
+-- the same of one that is accepted, by what it says
+pub says_ok : {A : Type 0} (f : Judged rules.Saying → A) (s : Stepped) (y x : Saying) → s.says ≡ Ok y → y ≡ x
+    → f (saying_by (Ok x) (take s.job.size s.numbers) (take s.job.size s.job.panel)) ≡ f (saying_from s)
+says_ok f s y x e d = says f s (Ok x) (e ∙ ap Ok d)

@@ -17,23 +17,18 @@ pub const TEXT_ROOM: usize = PANEL_ROOM;
 pub fn continues(stepped: Stepped) -> bool
     ensures { result ≡ continues (saying_from stepped) }
 {
-    let says = stepped.says;
-    match says {
-        Saying::Refused(_) => false,
-        Saying::Nothing => true,
-        Saying::Panel => true,
-        Saying::Quarter(_) => true,
-        Saying::Close(_) => true,
-    }
+    stepped.says.is_ok()
 }
 
 // Lays the text of what a command says, and answers its bytes.
 pub fn lay(text: &mut [u8; TEXT_ROOM], stepped: Stepped, at: usize) -> usize
     ensures { (result ≡ length (text_at (saying_from stepped) at)) × (text.new ≡ written 0 (text_at (saying_from stepped) at) text.old) }
 {
-    let says = stepped.says;
+    let says = match stepped.says {
+        Ok(says) => says,
+        Err(why) => return text_lines::refusal_line(text, why.number(), at),
+    };
     match says {
-        Saying::Refused(why) => text_lines::refusal_line(text, why.number(), at),
         Saying::Nothing => 0,
         Saying::Panel => {
             let drawn = stepped.job;

@@ -32,6 +32,7 @@ fn short(n: usize, lengths: &[usize; 6]) -> bool
 }
 
 // Lays the commands of a stream in six lists with the room.
+// Six parameters and no struct: the C interface lends each list for writing by itself.
 fn fill(
     s: &[u8],
     kinds: &mut [u8],

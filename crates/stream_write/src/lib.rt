@@ -141,6 +141,7 @@ fn put_share(out: &mut [u8], at: usize, place: u8, share: u16) -> usize
 }
 
 // Lays a command from the place at on, and answers the place after it.
+// By its byte and not by a kind: a row is what the lists for C hold, and that may be no kind.
 fn put_command(out: &mut [u8], at: usize, row: Row) -> usize
     requires { at + width_of row.kind ≤ length out.old }
     ensures { Put at (command_bytes (row_from row)) out.old out.new result }
