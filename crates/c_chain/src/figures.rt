@@ -6,6 +6,7 @@ ghost use Rattle.c_values.specs.Figures.{figure_from};
 ghost use Rattle.c_chain.specs.Record.{list_answer};
 
 use c_values::{Figure, figure_of, record};
+use refusals::Refusal;
 
 // A quarter on a lent record.
 #[unsafe(no_mangle)]
@@ -13,10 +14,7 @@ pub extern "C" fn vougecress_quarter(lent: &[u64], relatives: &[u32]) -> Figure
     ensures { result ≡ figure_from (list_answer lent.now (Call.quarter relatives.now)) }
 {
     if lent.len() < record::RECORD {
-        return Figure {
-            refusal: 19,
-            figure: 0,
-        };
+        return figure_of(Err(Refusal::State));
     }
     let held = record::load(lent);
     let answered = held.quarter(relatives);

@@ -3,7 +3,8 @@ ghost use Rattle.std.specs.Prelude.{◌≡◌};
 ghost use Rattle.rules.specs.Panel.{with_domain};
 ghost use Rattle.c_chain.specs.Record.{opened_number, opened_list};
 
-use c_values::{opening_number, record};
+use c_values::record;
+use refusals::Refusal;
 
 // Opens a chain in a lent record with an outside share; a mark that is not 0 says that the unit was sampled.
 #[unsafe(no_mangle)]
@@ -20,12 +21,8 @@ pub extern "C" fn vougecress_open_outside(
     ensures lent_after { lent.new ≡ opened_list (with_domain domain sampled.now weights.now shares.now relatives.now) start lent.old }
 {
     if lent.len() < record::RECORD {
-        return 6;
+        return u32::from(Refusal::ResultBuffer.number());
     }
     let opened = chain_open::open_outside(weights, shares, relatives, start, sampled, domain);
-    let answer = opened.answer;
-    let refusal = opening_number(answer);
-    let chain = opened.chain;
-    record::lay(refusal, chain, lent);
-    refusal
+    record::lay_opened(opened, lent)
 }

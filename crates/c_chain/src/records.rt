@@ -5,7 +5,8 @@ ghost use Rattle.rules.specs.Panel.{plain};
 ghost use Rattle.c_values.specs.Figures.{figure_from};
 ghost use Rattle.c_chain.specs.Record.{opened_number, opened_list, list_answer, list_after};
 
-use c_values::{Figure, figure_of, opening_number, record};
+use c_values::{Figure, figure_of, record};
+use refusals::Refusal;
 
 // Opens a chain in a lent record.
 #[unsafe(no_mangle)]
@@ -20,14 +21,10 @@ pub extern "C" fn vougecress_open(
     ensures lent_after { lent.new ≡ opened_list (plain weights.now shares.now relatives.now) start lent.old }
 {
     if lent.len() < record::RECORD {
-        return 6;
+        return u32::from(Refusal::ResultBuffer.number());
     }
     let opened = chain_open::open(weights, shares, relatives, start);
-    let answer = opened.answer;
-    let refusal = opening_number(answer);
-    let chain = opened.chain;
-    record::lay(refusal, chain, lent);
-    refusal
+    record::lay_opened(opened, lent)
 }
 
 // A close on a lent record.
@@ -37,10 +34,7 @@ pub extern "C" fn vougecress_close(lent: &mut [u64], relatives: &[u32]) -> Figur
     ensures lent_after { lent.new ≡ list_after lent.old (Call.close relatives.now) }
 {
     if lent.len() < record::RECORD {
-        return Figure {
-            refusal: 19,
-            figure: 0,
-        };
+        return figure_of(Err(Refusal::State));
     }
     let held = record::load(lent);
     let answered = held.close(relatives);

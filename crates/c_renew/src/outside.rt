@@ -3,7 +3,8 @@ ghost use Rattle.std.specs.Prelude.{◌≡◌};
 ghost use Rattle.rules.specs.Panel.{with_domain};
 ghost use Rattle.c_renew.specs.Record.{renewed_number, renewed_list};
 
-use c_values::{opening_number, record};
+use c_values::record;
+use refusals::Refusal;
 
 // Opens new weights from a lent record with an outside share; a mark that is not 0 says that the unit was sampled.
 #[unsafe(no_mangle)]
@@ -19,13 +20,9 @@ pub extern "C" fn vougecress_renew_outside(
     ensures lent_after { lent.new ≡ renewed_list (with_domain domain sampled.now weights.now shares.now relatives.now) lent.old }
 {
     if lent.len() < record::RECORD {
-        return 19;
+        return u32::from(Refusal::State.number());
     }
     let before = record::load(lent);
     let opened = chain_renew::renew_outside(before, weights, shares, relatives, sampled, domain);
-    let answer = opened.answer;
-    let refusal = opening_number(answer);
-    let next = opened.chain;
-    record::lay(refusal, next, lent);
-    refusal
+    record::lay_opened(opened, lent)
 }

@@ -3,7 +3,8 @@ ghost use Rattle.std.specs.Prelude.{◌≡◌};
 ghost use Rattle.rules.specs.Panel.{plain};
 ghost use Rattle.c_renew.specs.Record.{renewed_number, renewed_list};
 
-use c_values::{opening_number, record};
+use c_values::record;
+use refusals::Refusal;
 
 // Opens new weights from a lent record, and lays their record over it.
 #[unsafe(no_mangle)]
@@ -17,13 +18,9 @@ pub extern "C" fn vougecress_renew(
     ensures lent_after { lent.new ≡ renewed_list (plain weights.now shares.now relatives.now) lent.old }
 {
     if lent.len() < record::RECORD {
-        return 19;
+        return u32::from(Refusal::State.number());
     }
     let held = record::load(lent);
     let opened = chain_renew::renew(held, weights, shares, relatives);
-    let answer = opened.answer;
-    let refusal = opening_number(answer);
-    let chain = opened.chain;
-    record::lay(refusal, chain, lent);
-    refusal
+    record::lay_opened(opened, lent)
 }

@@ -8,11 +8,15 @@ use Rattle.rules.specs.Limits.{most_panel}
 use Rattle.rules.specs.Refusals.{judged, stays, written}
 use Rattle.rules.specs.Chain.{Chain}
 use Rattle.rules.proofs.Refusals.{given_tells, refused_tells}
-use Rattle.chain_open.specs.Opened.{opening_by}
-use Rattle.chain_open.specs.declared.Opening.{Opening}
+use Rattle.std.specs.Prelude.{Result, Ok, Err}
+use Rattle.refusals.specs.declared.Refusal.{Refusal}
+use Rattle.refusals.proofs.Answers.{written_by}
+use Rattle.chain.specs.declared.Chain.{Chain as CodeChain}
+use Rattle.chain.specs.Record.{record_of}
+use Rattle.chain_open.specs.Opened.{opening_of}
 use Rattle.c_values.specs.declared.Figure.{Figure}
-use Rattle.c_values.specs.Figures.{figure_from, opening_number}
-use Rattle.c_values.specs.Record.{record_list}
+use Rattle.c_values.specs.Figures.{figure_from}
+use Rattle.c_values.specs.Record.{record_list, opening_number, opened_list}
 use borrow.Rule.Slice.PartMut.{put_mid}
 
 -- four numbers and the weights over the first places
@@ -29,9 +33,10 @@ pub figure_number : (n f : ℕ) (r : Figure) → r ≡ figure_from (judged n f) 
 figure_number zero f r e = ap (λ (x : Figure). x.refusal) e
 figure_number (suc n) f r e = ap (λ (x : Figure). x.refusal) e
 
-pub opening_number_lem : (a : Opening) (c s : Chain) (n : ℕ) → opening_by a c ≡ judged n s → opening_number a ≡ n
-opening_number_lem Opening.Accepted c s n e = sym (given_tells n s c e).0
-opening_number_lem (Opening.Refused why) c s n e = refused_tells n _ s e
+-- an opening of the code, by what the definitions answer
+pub opened_is : (o : Result CodeChain Refusal) (n : ℕ) (s : Chain) (xs : List ℕ) → opening_of o ≡ judged n s → (opening_number o ≡ n) × (opened_list o xs ≡ written n (record_list s) xs)
+opened_is (Ok c) n s xs e = let t = given_tells n s (record_of c) e in (sym t.0, ap₂ (λ (k : ℕ) (r : Chain). written k (record_list r) xs) (sym t.0) t.1)
+opened_is (Err why) n s xs e = let number = refused_tells n _ s e in (number, written_by why n number (record_list s) xs)
 
 -- the record handed back beside a refusal is not written, whatever it holds
 written_next : (n : ℕ) (before next : Chain) (xs : List ℕ) → written n (record_list (stays n before next)) xs ≡ written n (record_list next) xs

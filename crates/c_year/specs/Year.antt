@@ -1,6 +1,6 @@
 -- Document 02, [6]: a year on a chain record in a lent list, what it answers and what it leaves there.
 use Rattle.std.specs.Prelude.{ℕ, cond, List, length, ltb}
-use Rattle.refusals.specs.Number.{verdict_of}
+use Rattle.refusals.specs.Number.{refusal_of}
 use Rattle.rules.specs.Refusals.{written}
 use Rattle.rules.specs.Chain.{Chain, Call}
 use Rattle.rules.specs.Year as rules
@@ -22,7 +22,7 @@ abbrev pub year_answer : rules.Year → Year
 year_answer y = record { refusal = y.refusal; count = y.count }
 
 abbrev pub year_from : Came → Year
-year_from came = record { refusal = verdict_of came.verdict; count = came.count }
+year_from came = record { refusal = refusal_of came.verdict; count = came.count }
 
 -- the list after a year: the next record in its first places, or as it was
 abbrev pub year_list : rules.Year → List ℕ → List ℕ

@@ -9,7 +9,6 @@ ghost use Rattle.c_year.specs.Year.{lent_record, lent_year, year_answer, year_fr
 use c_values::record;
 use chain::Chain;
 use chain_year::Came;
-use refusals::Verdict;
 
 // The refusal that stopped the year, or 0, and the calls that were accepted.
 #[repr(C)]
@@ -24,15 +23,12 @@ fn answered(came: Came) -> Year
     ensures { result ≡ year_from came }
 {
     let verdict = came.verdict;
-    let count = came.count;
+    let count = came.count as u64;
     match verdict {
-        Verdict::Accepted => Year {
-            refusal: 0,
-            count: count as u64,
-        },
-        Verdict::Refused(why) => Year {
-            refusal: why.number() as u32,
-            count: count as u64,
+        Ok(()) => Year { refusal: 0, count },
+        Err(why) => Year {
+            refusal: u32::from(why.number()),
+            count,
         },
     }
 }

@@ -6,6 +6,8 @@ use mathlib.Core.List.{List, [], ◌∷◌}
 use Prim.Native.Nat.{ℕ}
 use contract.Lifetimes.{Lfts}
 use denote.Ref.{Bor, MutBor}
+use Rattle.std.specs.Prelude.{Result, Ok}
+use Rattle.refusals.specs.declared.Refusal.{Refusal}
 use Rattle.rules.specs.Refusals.{Judged}
 use Rattle.rules.specs.Chain as rules
 use Rattle.rules.specs.Panel.{Panel, panel_record, panel_answer}
@@ -16,9 +18,7 @@ use Rattle.chain.specs.Record.{record_of}
 use Rattle.chain.specs.declared.Chain.{Chain}
 use Rattle.chain.proofs.Chain.quarter.Reads as quarter-reads
 use Rattle.chain.proofs.Chain.close.Reads as close-reads
-use Rattle.chain_open.specs.Opened.{opening_by, opening_of}
-use Rattle.chain_open.specs.declared.Opening.{Opening}
-use Rattle.chain_open.specs.declared.Opened.{Opened}
+use Rattle.chain_open.specs.Opened.{opening_of}
 use Rattle.chain_open.proofs.«open».Reads as open-reads
 use Rattle.chain_open.proofs.open_outside.Reads as open-outside-reads
 use Rattle.chain_bound.specs.Trace.{Met, Trace}
@@ -26,6 +26,8 @@ use Rattle.chain_bound.proofs.Joint.{call_met, renewal_met, year_met}
 use Rattle.chain_bound.proofs.Demand3.{demand3_trace}
 use Rattle.chain_year.specs.Run.{year_with}
 use Rattle.chain_year.proofs.year.Reads as year-reads
+use Rattle.chain_renew.specs.Renewed.{left}
+use Rattle.chain_renew.proofs.Onward.{after_is}
 use Rattle.chain_renew.proofs.renew.Reads as renew-reads
 use Rattle.chain_renew.proofs.renew_outside.Reads as renew-outside-reads
 use Rattle.chain_bound_code.specs.Calls.{PanelOpened, PanelRenewed, CallsMade}
@@ -56,10 +58,10 @@ pub renew_outside_asks : (κs : Lfts 4) (c : Chain) (w g a marks : Bor (List ℕ
 renew_outside_asks κs c w g a marks domain = tt
 
 -- a renewal of the code, with or without an outside share, is the definitions'
-renewed : {c : Chain} {p : Panel} {o : Opened} → PanelRenewed c p o →
-    Met (record_of c) (Made.renewal p) (renewal_event p (opening_of o) ∷ []) (record_of o.chain)
-renewed (PanelRenewed.without made) = renewal_met _ _ _ _ made.learnt.0 made.learnt.1
-renewed (PanelRenewed.outside made) = renewal_met _ _ _ _ made.learnt.0 made.learnt.1
+renewed : {c : Chain} {p : Panel} {o : Result Chain Refusal} → PanelRenewed c p o →
+    Met (record_of c) (Made.renewal p) (renewal_event p (opening_of o) ∷ []) (record_of (left c o))
+renewed (PanelRenewed.without made) = renewal_met _ _ _ _ made.learnt (after_is _ _ _ made.learnt)
+renewed (PanelRenewed.outside made) = renewal_met _ _ _ _ made.learnt (after_is _ _ _ made.learnt)
 
 -- calls of the code are a trace of the definitions
 trace : {c : Chain} {list : List Made} {given : List Event} → CallsMade c list given → Trace (record_of c) list given
@@ -73,14 +75,14 @@ trace (CallsMade.year {c = c} {d = d} {q₁ = q₁} {q₂ = q₂} {q₃ = q₃} 
 trace (CallsMade.renewal m rest) = Trace.next (renewed m) (trace rest)
 
 -- an opening that the code accepts is the definitions', with or without an outside share
-opened : {p : Panel} {start : ℕ} {o : Opened} → PanelOpened p start o → o.answer ≡ Opening.Accepted → panel_answer p start ≡ Judged.given (record_of o.chain)
+opened : {p : Panel} {start : ℕ} {o : Result Chain Refusal} (c : Chain) → PanelOpened p start o → o ≡ Ok c → panel_answer p start ≡ Judged.given (record_of c)
 unfolding rules.open_answer panel_answer
-opened {o = o} (PanelOpened.without made) accepted = sym made.learnt.0 ∙ ap (λ (x : Opening). opening_by x (record_of o.chain)) accepted
-opened {o = o} (PanelOpened.outside made) accepted = sym made.learnt.0 ∙ ap (λ (x : Opening). opening_by x (record_of o.chain)) accepted
+opened c (PanelOpened.without made) accepted = sym made.learnt ∙ ap opening_of accepted
+opened c (PanelOpened.outside made) accepted = sym made.learnt ∙ ap opening_of accepted
 
--- The theorem: p and start are what the open was handed, o is what it handed back.
-pub demand3 : (p : Panel) (start : ℕ) (o : Opened) → PanelOpened p start o → o.answer ≡ Opening.Accepted →
-    (list : List Made) (given : List Event) → CallsMade o.chain list given →
+-- The theorem: p and start are what the open was handed, o is what it answered, and c is the record that this holds.
+pub demand3 : (p : Panel) (start : ℕ) (o : Result Chain Refusal) → PanelOpened p start o → (c : Chain) → o ≡ Ok c →
+    (list : List Made) (given : List Event) → CallsMade c list given →
     (given ≡ events (panel_record p start) list) × AllWithin (direct_open p start) given
-demand3 p start o made accepted list given follow =
-    demand3_trace p start (record_of o.chain) (opened made accepted) list given (trace follow)
+demand3 p start o made c accepted list given follow =
+    demand3_trace p start (record_of c) (opened c made accepted) list given (trace follow)

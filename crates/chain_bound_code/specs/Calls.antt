@@ -2,11 +2,12 @@
 -- `Chain::quarter`, `Chain::close`, `chain_year::year`, and `chain_renew::renew` or `chain_renew::renew_outside`, each handed the record that the call
 -- before it handed back. Of a call is known what Rattle lets its caller know: `Learnt` of the module `Reads` that it makes of the function's own `ensures`.
 -- No line here repeats a contract.
-use Rattle.std.specs.Prelude.{ℕ, ◌≡◌, List, [], ◌∷◌, ◌++◌, length, take}
+use Rattle.std.specs.Prelude.{Result, ℕ, ◌≡◌, List, [], ◌∷◌, ◌++◌, length, take}
 use contract.Lifetimes.{Lfts}
 use Rattle.std.specs.Borrow.{Bor, MutBor}
 use denote.Triple.Clauses.{AtExit}
-use Rattle.refusals.specs.Number.{verdict_of}
+use Rattle.refusals.specs.Number.{refusal_of}
+use Rattle.refusals.specs.declared.Refusal.{Refusal}
 use Rattle.rules.specs.Chain.{Call}
 use Rattle.rules.specs.Panel.{Panel, plain, with_domain}
 use Rattle.rules.specs.Year.{four_calls}
@@ -20,7 +21,6 @@ use Rattle.chain.proofs.Chain.quarter.Reads as quarter-reads
 use Rattle.chain.specs.contracts.Chain.close as close-contract
 use Rattle.chain.proofs.Chain.close.Reads as close-reads
 use Rattle.chain_open.specs.Opened.{opening_of}
-use Rattle.chain_open.specs.declared.Opened.{Opened}
 use Rattle.chain_open.specs.contracts.«open» as open-contract
 use Rattle.chain_open.proofs.«open».Reads as open-reads
 use Rattle.chain_open.specs.contracts.open_outside as open-outside-contract
@@ -28,45 +28,46 @@ use Rattle.chain_open.proofs.open_outside.Reads as open-outside-reads
 use Rattle.chain_year.specs.declared.Came.{Came}
 use Rattle.chain_year.specs.contracts.year as year-contract
 use Rattle.chain_year.proofs.year.Reads as year-reads
+use Rattle.chain_renew.specs.Renewed.{left}
 use Rattle.chain_renew.specs.contracts.renew as renew-contract
 use Rattle.chain_renew.proofs.renew.Reads as renew-reads
 use Rattle.chain_renew.specs.contracts.renew_outside as renew-outside-contract
 use Rattle.chain_renew.proofs.renew_outside.Reads as renew-outside-reads
 
 -- `chain_open::open` of the slices w, g and a and of start returned o; `w.now` is what w holds.
-pub record OpenMade (w g a : Bor (List ℕ)) (start : ℕ) (o : Opened) : Type 0 where
+pub record OpenMade (w g a : Bor (List ℕ)) (start : ℕ) (o : Result Chain Refusal) : Type 0 where
   pub lifetimes : Lfts 3
   pub end : AtExit open-contract.ended lifetimes
   pub learnt : open-reads.Learnt lifetimes (w, (g, (a, (start, tt)))) o end
 
 -- `chain_open::open_outside` of the slices w, g and a, of start, of the marks and of share returned o.
-pub record OpenOutsideMade (w g a : Bor (List ℕ)) (start : ℕ) (marks : Bor (List ℕ)) (domain : ℕ) (o : Opened) : Type 0 where
+pub record OpenOutsideMade (w g a : Bor (List ℕ)) (start : ℕ) (marks : Bor (List ℕ)) (domain : ℕ) (o : Result Chain Refusal) : Type 0 where
   pub lifetimes : Lfts 4
   pub end : AtExit open-outside-contract.ended lifetimes
   pub learnt : open-outside-reads.Learnt lifetimes (w, (g, (a, (start, (marks, (domain, tt)))))) o end
 
 -- Either of the two, with the panel that it was handed.
-pub data PanelOpened : Panel → ℕ → Opened → Type 0 where
-  without : {w g a : Bor (List ℕ)} {start : ℕ} {o : Opened} → OpenMade w g a start o → PanelOpened (plain w.now g.now a.now) start o
-  outside : {w g a : Bor (List ℕ)} {start : ℕ} {marks : Bor (List ℕ)} {domain : ℕ} {o : Opened} →
+pub data PanelOpened : Panel → ℕ → Result Chain Refusal → Type 0 where
+  without : {w g a : Bor (List ℕ)} {start : ℕ} {o : Result Chain Refusal} → OpenMade w g a start o → PanelOpened (plain w.now g.now a.now) start o
+  outside : {w g a : Bor (List ℕ)} {start : ℕ} {marks : Bor (List ℕ)} {domain : ℕ} {o : Result Chain Refusal} →
       OpenOutsideMade w g a start marks domain o → PanelOpened (with_domain domain marks.now w.now g.now a.now) start o
 
 -- `chain_renew::renew` of c and the slices w, g and a returned o
-pub record RenewMade (c : Chain) (w g a : Bor (List ℕ)) (o : Opened) : Type 0 where
+pub record RenewMade (c : Chain) (w g a : Bor (List ℕ)) (o : Result Chain Refusal) : Type 0 where
   pub lifetimes : Lfts 3
   pub end : AtExit renew-contract.ended lifetimes
   pub learnt : renew-reads.Learnt lifetimes (c, (w, (g, (a, tt)))) o end
 
 -- `chain_renew::renew_outside` of these, of the marks and of the outside share returned o
-pub record RenewOutsideMade (c : Chain) (w g a marks : Bor (List ℕ)) (domain : ℕ) (o : Opened) : Type 0 where
+pub record RenewOutsideMade (c : Chain) (w g a marks : Bor (List ℕ)) (domain : ℕ) (o : Result Chain Refusal) : Type 0 where
   pub lifetimes : Lfts 4
   pub end : AtExit renew-outside-contract.ended lifetimes
   pub learnt : renew-outside-reads.Learnt lifetimes (c, (w, (g, (a, (marks, (domain, tt)))))) o end
 
 -- Either of the two, with the panel that it was handed.
-pub data PanelRenewed : Chain → Panel → Opened → Type 0 where
-  without : {c : Chain} {w g a : Bor (List ℕ)} {o : Opened} → RenewMade c w g a o → PanelRenewed c (plain w.now g.now a.now) o
-  outside : {c : Chain} {w g a marks : Bor (List ℕ)} {domain : ℕ} {o : Opened} →
+pub data PanelRenewed : Chain → Panel → Result Chain Refusal → Type 0 where
+  without : {c : Chain} {w g a : Bor (List ℕ)} {o : Result Chain Refusal} → RenewMade c w g a o → PanelRenewed c (plain w.now g.now a.now) o
+  outside : {c : Chain} {w g a marks : Bor (List ℕ)} {domain : ℕ} {o : Result Chain Refusal} →
       RenewOutsideMade c w g a marks domain o → PanelRenewed c (with_domain domain marks.now w.now g.now a.now) o
 
 -- `Chain::quarter` of c and the slice p returned r
@@ -93,7 +94,7 @@ pub record YearMade (c : Chain) (q₁ q₂ q₃ p : Bor (List ℕ)) (buffer : Mu
 
 -- what a year came to, as its caller reads it off the answer and the buffer
 abbrev pub year_events : MutBor (List ℕ) → List Call → Came → List ℕ → List Event
-year_events buffer calls r fs = year_told (length buffer.now) calls (verdict_of r.verdict) (take r.count fs)
+year_events buffer calls r fs = year_told (length buffer.now) calls (refusal_of r.verdict) (take r.count fs)
 
 -- Calls made one after the other from a record, what they ask, and what they came to.
 pub data CallsMade : Chain → List Made → List Event → Type 0 where
@@ -108,5 +109,5 @@ pub data CallsMade : Chain → List Made → List Event → Type 0 where
       YearMade c q₁ q₂ q₃ p buffer r d fs → CallsMade d list later →
       CallsMade c (Made.year (length buffer.now) q₁.now q₂.now q₃.now p.now ∷ list)
       (year_events buffer (four_calls q₁.now q₂.now q₃.now p.now) r fs ++ later)
-  renewal : {c : Chain} {p : Panel} {o : Opened} {list : List Made} {later : List Event} →
-      PanelRenewed c p o → CallsMade o.chain list later → CallsMade c (Made.renewal p ∷ list) (renewal_event p (opening_of o) ∷ later)
+  renewal : {c : Chain} {p : Panel} {o : Result Chain Refusal} {list : List Made} {later : List Event} →
+      PanelRenewed c p o → CallsMade (left c o) list later → CallsMade c (Made.renewal p ∷ list) (renewal_event p (opening_of o) ∷ later)

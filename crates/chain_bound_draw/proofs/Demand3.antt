@@ -17,8 +17,9 @@ use Rattle.rules.specs.Panel.{plain, panel_record}
 use Rattle.rules.specs.Events.{Event, Made, events}
 use Rattle.rules.specs.Direct.{direct_open, AllWithin}
 use Rattle.rules.proofs.Refusals.{given_tells}
-use Rattle.chain_open.specs.declared.Opening.{Opening}
-use Rattle.chain_open.specs.declared.Opened.{Opened}
+use Rattle.std.specs.Prelude.{Result, Ok}
+use Rattle.refusals.specs.declared.Refusal.{Refusal}
+use Rattle.chain.specs.declared.Chain.{Chain}
 use Rattle.chain_bound_code.specs.Calls.{OpenMade, PanelOpened, CallsMade}
 use Rattle.chain_bound_code.proofs.Demand3.{demand3}
 use Rattle.draw_key.specs.declared.Method.{Method}
@@ -38,10 +39,10 @@ abbrev pub Covered : List ℕ → List ℕ → List ℕ → ℕ → List Made �
 Covered ws gs rs index list given = (given ≡ events (panel_record (plain ws gs rs) index) list) × AllWithin (direct_open (plain ws gs rs) index) given
 
 -- w, the list that the open was handed, holds ws
-pub demand3_handed : (ws : List ℕ) (w g a : Bor (List ℕ)) (index : ℕ) (o : Opened) → w.now ≡ ws → OpenMade w g a index o → o.answer ≡ Opening.Accepted →
-    (list : List Made) (given : List Event) → CallsMade o.chain list given → Covered ws g.now a.now index list given
-demand3_handed ws w g a index o handed opened accepted list given follow =
-    subst (λ (v : List ℕ). Covered v g.now a.now index list given) handed (demand3 _ index o (PanelOpened.without opened) accepted list given follow)
+pub demand3_handed : (ws : List ℕ) (w g a : Bor (List ℕ)) (index : ℕ) (o : Result Chain Refusal) → w.now ≡ ws → OpenMade w g a index o → (c : Chain) → o ≡ Ok c →
+    (list : List Made) (given : List Event) → CallsMade c list given → Covered ws g.now a.now index list given
+demand3_handed ws w g a index o handed opened c accepted list given follow =
+    subst (λ (v : List ℕ). Covered v g.now a.now index list given) handed (demand3 _ index o (PanelOpened.without opened) c accepted list given follow)
 
 -- A draw asks nothing of its caller.
 pub draw_asks :
@@ -74,6 +75,6 @@ module _ (method : Method) (lent : Bor Frame) (z start : ℕ) (numbers weights :
       ap (take z) all ∙ take_at panel (drop (length panel) weights.now) z size
 
   -- The theorem: w, the list that the open was handed, holds those first z places.
-  pub demand3_drawn : (w g a : Bor (List ℕ)) (index : ℕ) (o : Opened) → w.now ≡ take z ws → OpenMade w g a index o → o.answer ≡ Opening.Accepted →
-      (list : List Made) (given : List Event) → CallsMade o.chain list given → Covered panel g.now a.now index list given
+  pub demand3_drawn : (w g a : Bor (List ℕ)) (index : ℕ) (o : Result Chain Refusal) → w.now ≡ take z ws → OpenMade w g a index o → (c : Chain) → o ≡ Ok c →
+      (list : List Made) (given : List Event) → CallsMade c list given → Covered panel g.now a.now index list given
   demand3_drawn w g a index o handed = demand3_handed panel w g a index o (handed ∙ weights_are)

@@ -14,8 +14,9 @@ use Rattle.rules.specs.Draw as draws
 use Rattle.rules.specs.Draw.{kept_draw_refusal, kept_draw_answer, kept_draw_weights}
 use Rattle.rules.specs.Events.{Event, Made}
 use Rattle.rules.proofs.Refusals.{given_tells}
-use Rattle.chain_open.specs.declared.Opening.{Opening}
-use Rattle.chain_open.specs.declared.Opened.{Opened}
+use Rattle.std.specs.Prelude.{Result, Ok}
+use Rattle.refusals.specs.declared.Refusal.{Refusal}
+use Rattle.chain.specs.declared.Chain.{Chain}
 use Rattle.chain_bound_code.specs.Calls.{OpenMade, CallsMade}
 use Rattle.draw_key.specs.declared.Method.{Method}
 use Rattle.draw_key.specs.Methods.{method_of}
@@ -58,6 +59,6 @@ module _ (method : Method) (lent : Bor Frame) (z start : ℕ) (lists : Bor Keepi
       ap (take z) all ∙ take_at panel (drop (length panel) weights.now) z size
 
   -- The theorem: w, the list that the open was handed, holds those first z places.
-  pub demand3_kept : (w g a : Bor (List ℕ)) (index : ℕ) (o : Opened) → w.now ≡ take z ws → OpenMade w g a index o → o.answer ≡ Opening.Accepted →
-      (list : List Made) (given : List Event) → CallsMade o.chain list given → Covered panel g.now a.now index list given
+  pub demand3_kept : (w g a : Bor (List ℕ)) (index : ℕ) (o : Result Chain Refusal) → w.now ≡ take z ws → OpenMade w g a index o → (c : Chain) → o ≡ Ok c →
+      (list : List Made) (given : List Event) → CallsMade c list given → Covered panel g.now a.now index list given
   demand3_kept w g a index o handed = demand3_handed panel w g a index o (handed ∙ weights_are)

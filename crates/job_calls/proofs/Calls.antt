@@ -19,15 +19,12 @@ use Rattle.rules.specs.Stream.{Command}
 use Rattle.rules.specs.Chain.{Chain, Call, call_refusal, call_answer, accepted, after, figure_of, relatives, shared, open_refusal, open_record, open_answer}
 use Rattle.rules.specs.Job.{Step, OpenChain, step_by, on_call, step, with_chain, figure_said, Saying as Said, on_open}
 use Rattle.rules.proofs.Refusals.{stays_goes, given_tells, refused_tells, refuse_on, refuse_off, then_goes}
-use Rattle.chain.specs.declared.Answer.{Answer}
-use Rattle.chain.specs.declared.Answer.TheVariants as ChainAnswer
 use Rattle.chain.specs.declared.Answered.{Answered}
 use Rattle.chain.specs.declared.Kind.{Kind}
 use Rattle.chain.specs.Record.{record_of, chain_from, call_by, answer_from}
-use Rattle.chain_open.specs.declared.Opened.{Opened}
-use Rattle.chain_open.specs.declared.Opening.{Opening}
-use Rattle.chain_open.specs.declared.Opening.TheVariants as OpenAnswer
-use Rattle.chain_open.specs.Opened.{opening_by, opening_of}
+use Rattle.chain.specs.declared.Chain.{Chain as CodeChain}
+use Rattle.std.specs.Prelude.{Result, Ok, Err}
+use Rattle.chain_open.specs.Opened.{opening_of}
 use Rattle.job_state.specs.declared.Job.{Job}
 use Rattle.job_state.specs.declared.Stepped.{Stepped}
 use Rattle.job_state.specs.declared.Saying.{Saying}
@@ -82,7 +79,7 @@ module _ (j : Job) (kind : Kind) (r : Stepped) where
     abbrev asked : call_by kind (take size j.pending) ≡ call
     asked = ap (call_by kind) (lent j.pending size j.size most_panel places.pending e)
 
-    answered : (x : Answer) → told.answer ≡ x → answer_from x ≡ judged (call_refusal held call) figure
+    answered : (x : Result ℕ Refusal) → told.answer ≡ x → answer_from x ≡ judged (call_refusal held call) figure
     unfolding call_answer
     answered x t = sym (ap answer_from t) ∙ a ∙ ap (call_answer held) asked
 
@@ -90,12 +87,12 @@ module _ (j : Job) (kind : Kind) (r : Stepped) where
         ≡ step_by (call_refusal held call) (job_of j) (with_chain (job_of j) (accepted held call)) (figure_said call figure)
     by_call = by_kind j kind ∙ ap kept (not-false j.is_open o)
 
-    pub call_refused : (why : Refusal) → told.answer ≡ ChainAnswer.Refused why → r ≡ plain_step j (Refused why) → Steps j (command_by kind) r
+    pub call_refused : (why : Refusal) → told.answer ≡ Err why → r ≡ plain_step j (Refused why) → Steps j (command_by kind) r
     call_refused why t p =
         let number = refused_tells (call_refusal held call) (number_of why) figure (answered _ t) in
         refused_step j (command_by kind) (call_refusal held call) _ _ r by_call why number p
 
-    pub call_figure : (f : ℕ) → told.answer ≡ ChainAnswer.Figure f → record_of told.chain ≡ after held (call_by kind (take size j.pending))
+    pub call_figure : (f : ℕ) → told.answer ≡ Ok f → record_of told.chain ≡ after held (call_by kind (take size j.pending))
         → (left : Job) → left ≡ chain_held j told.chain → (s : Saying) → s ≡ saying_of kind f → r ≡ plain_step left s → Steps j (command_by kind) r
     unfolding after
     call_figure f t k left l s says p =
@@ -127,7 +124,7 @@ module _ (j : Job) (start : ℕ) (r : Stepped) (places : Sized j) (size : ℕ) (
       refused_step j _ (without then opening) _ _ r refl State (stops_by_lem State without opening (sym (refuse_on _ 19 (le-leb _ _ none)))) p
 
   -- the opening is handed the panel, and tells its answer
-  module _ (some : size ≡ 0 → ⊥) (told : Opened)
+  module _ (some : size ≡ 0 → ⊥) (told : Result CodeChain Refusal)
       (a : opening_of told ≡ open_answer (take size j.panel) (take size j.shares) (take size j.pending) start) where
     panel_first : (without then opening) ≡ opening
     panel_first =
@@ -136,25 +133,25 @@ module _ (j : Job) (start : ℕ) (r : Stepped) (places : Sized j) (size : ℕ) (
         then_goes without opening (refuse_off _ 19 (lt-leb _ _ more))
 
     -- the parts that are lent are the lists that the job stands for
-    told_of : (x : Opening) → told.answer ≡ x → opening_by x (record_of told.chain) ≡ judged opening opened
+    told_of : (x : Result CodeChain Refusal) → told ≡ x → opening_of x ≡ judged opening opened
     unfolding open_answer
     told_of x t =
         let w = lent j.panel size j.size most_panel places.panel e in
         let g = lent j.shares size j.size most_panel places.shares e in
         let p = lent j.pending size j.size most_panel places.pending e in
-        sym (ap (λ (y : Opening). opening_by y (record_of told.chain)) t) ∙ a ∙ cc
+        sym (ap opening_of t) ∙ a ∙ cc
 
-    pub open_refused : (why : Refusal) → told.answer ≡ OpenAnswer.Refused why → r ≡ plain_step j (Refused why) → Steps j (Command.opens start) r
+    pub open_refused : (why : Refusal) → told ≡ Err why → r ≡ plain_step j (Refused why) → Steps j (Command.opens start) r
     unfolding step on_open
     open_refused why t p =
         let number = refused_tells opening (number_of why) opened (told_of _ t) in
         refused_step j _ (without then opening) _ _ r refl why (number ∙ sym panel_first) p
 
-    pub open_accepted : told.answer ≡ OpenAnswer.Accepted → (left : Job) → left ≡ chain_held j told.chain → r ≡ plain_step left Nothing
+    pub open_accepted : (c : CodeChain) → told ≡ Ok c → (left : Job) → left ≡ chain_held j c → r ≡ plain_step left Nothing
         → Steps j (Command.opens start) r
     unfolding step on_open
-    open_accepted t left l p =
-        let n = given_tells opening opened (record_of told.chain) (told_of _ t) in
+    open_accepted c t left l p =
+        let n = given_tells opening opened (record_of c) (told_of _ t) in
         let is-next : left ≡ chain_opened j start = l ∙ ap (λ (x : Chain). chain_held j (chain_from x)) n.1 in
         plain_step_lem j _ (without then opening) _ _ r refl (panel_first ∙ n.0) (chain_held_lem j opened places.panel) Nothing
         left is-next p (λ ns ws. refl) refl

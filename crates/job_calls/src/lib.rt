@@ -6,8 +6,7 @@ ghost use Rattle.rules.specs.Stream.{Command};
 ghost use Rattle.job_state.specs.Steps.{Steps};
 ghost use Rattle.job_calls.specs.Commands.{command_by, saying_of};
 
-use chain::{Answer, Kind};
-use chain_open::Opening;
+use chain::Kind;
 use job_state::{Job, Saying, Stepped, said, with_chain, within};
 use limits::MOST_PANEL;
 use refusals::Refusal;
@@ -24,13 +23,9 @@ pub fn on_open(job: Job, start: u64) -> Stepped
     let shares = job.shares;
     let pending = job.pending;
     let opened = chain_open::open(&panel[..size], &shares[..size], &pending[..size], start);
-    let answer = opened.answer;
-    match answer {
-        Opening::Refused(why) => said(job, Saying::Refused(why)),
-        Opening::Accepted => {
-            let chain = opened.chain;
-            said(with_chain(job, chain), Saying::Nothing)
-        }
+    match opened {
+        Err(why) => said(job, Saying::Refused(why)),
+        Ok(chain) => said(with_chain(job, chain), Saying::Nothing),
     }
 }
 
@@ -58,8 +53,8 @@ pub fn on_call(job: Job, kind: Kind) -> Stepped
     let answered = chain.call(kind, &pending[..size]);
     let answer = answered.answer;
     match answer {
-        Answer::Refused(why) => said(job, Saying::Refused(why)),
-        Answer::Figure(f) => {
+        Err(why) => said(job, Saying::Refused(why)),
+        Ok(f) => {
             let next = answered.chain;
             said(with_chain(job, next), figure_said(kind, f))
         }

@@ -10,14 +10,14 @@ returns-then-size-eq0 c =
     let places : Sized c.args.job = search rules in
     no_panel _ _ _ places _ c.within-size.ensures c.if-size-eq0.true c.said.ensures
 
-pub returns-in-Refused : goal.returns-in-Refused
-returns-in-Refused c =
+pub returns-in-Err : goal.returns-in-Err
+returns-in-Err c =
     let places : Sized c.args.job = search rules in
-    open_refused _ _ _ places _ c.within-size.ensures (omega arith) c.open-opened.result c.open-opened.ensures.result_value _
-    c.in-Refused.is c.said-in-Refused.ensures
+    open_refused _ _ _ places _ c.within-size.ensures (omega arith) c.open-opened.result c.open-opened.ensures _
+    c.in-Err.is c.said-in-Err.ensures
 
-pub returns-in-Accepted : goal.returns-in-Accepted
-returns-in-Accepted c =
+pub returns-in-Ok : goal.returns-in-Ok
+returns-in-Ok c =
     let places : Sized c.args.job = search rules in
-    open_accepted _ _ _ places _ c.within-size.ensures (omega arith) c.open-opened.result c.open-opened.ensures.result_value
-    c.in-Accepted.is _ c.with_chain.ensures c.said-in-Accepted.ensures
+    open_accepted _ _ _ places _ c.within-size.ensures (omega arith) c.open-opened.result c.open-opened.ensures
+    _ c.in-Ok.is _ c.with_chain.ensures c.said-in-Ok.ensures

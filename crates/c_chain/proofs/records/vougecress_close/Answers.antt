@@ -13,7 +13,7 @@ use Rattle.c_chain.proofs.records.vougecress_close.Goals as goal
 pub returns-then-lent-lt-RECORD : goal.returns-then-lent-lt-RECORD
 unfolding list_refusal list_answer list_after refuse ◌then◌
 returns-then-lent-lt-RECORD c = let short = lt-ltb (length c.args.lent.now) record_places c.if-lent-lt-RECORD.true in
-    record { value = rw short; lent_after = rw short }
+    record { value = rw short c.figure_of.ensures; lent_after = rw short }
 
 pub returns : goal.returns
 unfolding list_refusal list_answer list_after call_answer after refuse ◌then◌
