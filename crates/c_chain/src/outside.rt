@@ -4,6 +4,7 @@ ghost use Rattle.rules.specs.Panel.{with_domain};
 ghost use Rattle.c_chain.specs.Record.{opened_number, opened_list};
 
 use c_values::record;
+use chain_open_input::Lists;
 use refusals::Refusal;
 
 // Opens a chain in a lent record with an outside share; a mark that is not 0 says that the unit was sampled.
@@ -23,6 +24,11 @@ pub extern "C" fn vougecress_open_outside(
     if lent.len() < record::RECORD {
         return u32::from(Refusal::ResultBuffer.number());
     }
-    let opened = chain_open::open_outside(weights, shares, relatives, start, sampled, domain);
+    let lists = Lists {
+        weights,
+        shares,
+        relatives,
+    };
+    let opened = chain_open::open_outside(&lists, start, sampled, domain);
     record::lay_opened(opened, lent)
 }

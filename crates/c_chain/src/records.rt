@@ -6,6 +6,7 @@ ghost use Rattle.c_values.specs.Figures.{figure_from};
 ghost use Rattle.c_chain.specs.Record.{opened_number, opened_list, list_answer, list_after};
 
 use c_values::{Figure, figure_of, record};
+use chain_open_input::Lists;
 use refusals::Refusal;
 
 // Opens a chain in a lent record.
@@ -23,7 +24,12 @@ pub extern "C" fn vougecress_open(
     if lent.len() < record::RECORD {
         return u32::from(Refusal::ResultBuffer.number());
     }
-    let opened = chain_open::open(weights, shares, relatives, start);
+    let lists = Lists {
+        weights,
+        shares,
+        relatives,
+    };
+    let opened = chain_open::open(&lists, start);
     record::lay_opened(opened, lent)
 }
 

@@ -4,6 +4,7 @@ ghost use Rattle.rules.specs.Panel.{with_domain};
 ghost use Rattle.c_renew.specs.Record.{renewed_number, renewed_list};
 
 use c_values::record;
+use chain_open_input::Lists;
 use refusals::Refusal;
 
 // Opens new weights from a lent record with an outside share; a mark that is not 0 says that the unit was sampled.
@@ -23,6 +24,11 @@ pub extern "C" fn vougecress_renew_outside(
         return u32::from(Refusal::State.number());
     }
     let before = record::load(lent);
-    let opened = chain_renew::renew_outside(before, weights, shares, relatives, sampled, domain);
+    let lists = Lists {
+        weights,
+        shares,
+        relatives,
+    };
+    let opened = chain_renew::renew_outside(before, &lists, sampled, domain);
     record::lay_opened(opened, lent)
 }

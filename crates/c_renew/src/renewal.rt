@@ -4,6 +4,7 @@ ghost use Rattle.rules.specs.Panel.{plain};
 ghost use Rattle.c_renew.specs.Record.{renewed_number, renewed_list};
 
 use c_values::record;
+use chain_open_input::Lists;
 use refusals::Refusal;
 
 // Opens new weights from a lent record, and lays their record over it.
@@ -21,6 +22,11 @@ pub extern "C" fn vougecress_renew(
         return u32::from(Refusal::State.number());
     }
     let held = record::load(lent);
-    let opened = chain_renew::renew(held, weights, shares, relatives);
+    let lists = Lists {
+        weights,
+        shares,
+        relatives,
+    };
+    let opened = chain_renew::renew(held, &lists);
     record::lay_opened(opened, lent)
 }

@@ -6,6 +6,7 @@ ghost use Rattle.rules.specs.Allocation.{sharing};
 ghost use Rattle.c_sample.specs.Sample.{sample_from};
 
 use limits::MOST_SECTORS;
+use sector_judge::Sharing;
 
 #[repr(C)]
 #[derive(Drop)]
@@ -21,7 +22,12 @@ pub struct Sample {
 pub extern "C" fn vougecress_sample(interviews: u64, strengths: &[u64], minima: &[u64]) -> Sample
     ensures { result ≡ sample_from (sharing interviews strengths.now minima.now) }
 {
-    match sector_sample::share(interviews, strengths, minima) {
+    let sharing = Sharing {
+        interviews,
+        strengths,
+        minima,
+    };
+    match sector_sample::share(&sharing) {
         Ok(quotas) => {
             let counts = quotas.counts;
             let wholes = quotas.wholes;

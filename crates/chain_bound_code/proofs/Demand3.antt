@@ -18,6 +18,7 @@ use Rattle.chain.specs.Record.{record_of}
 use Rattle.chain.specs.declared.Chain.{Chain}
 use Rattle.chain.proofs.Chain.quarter.Reads as quarter-reads
 use Rattle.chain.proofs.Chain.close.Reads as close-reads
+use Rattle.chain_open_input.specs.declared.Lists.{Lists}
 use Rattle.chain_open.specs.Opened.{opening_of}
 use Rattle.chain_open.proofs.«open».Reads as open-reads
 use Rattle.chain_open.proofs.open_outside.Reads as open-outside-reads
@@ -33,12 +34,12 @@ use Rattle.chain_renew.proofs.renew_outside.Reads as renew-outside-reads
 use Rattle.chain_bound_code.specs.Calls.{PanelOpened, PanelRenewed, CallsMade}
 
 -- None of the seven asks anything of its caller: every list of calls can be made.
-pub open_asks : (κs : Lfts 3) (w g a : Bor (List ℕ)) (start : ℕ) → open-reads.Asked κs (w, (g, (a, (start, tt))))
-open_asks κs w g a start = tt
+pub open_asks : (κs : Lfts 2) (lent : Bor Lists) (start : ℕ) → open-reads.Asked κs (lent, (start, tt))
+open_asks κs lent start = tt
 
-pub open_outside_asks : (κs : Lfts 4) (w g a marks : Bor (List ℕ)) (start domain : ℕ) →
-    open-outside-reads.Asked κs (w, (g, (a, (start, (marks, (domain, tt))))))
-open_outside_asks κs w g a marks start domain = tt
+pub open_outside_asks : (κs : Lfts 3) (lent : Bor Lists) (marks : Bor (List ℕ)) (start domain : ℕ) →
+    open-outside-reads.Asked κs (lent, (start, (marks, (domain, tt))))
+open_outside_asks κs lent marks start domain = tt
 
 pub quarter_asks : (κs : Lfts 1) (c : Chain) (p : Bor (List ℕ)) → quarter-reads.Asked κs (c, (p, tt))
 quarter_asks κs c p = tt
@@ -50,12 +51,12 @@ pub year_asks : (κs : Lfts 6) (lent : MutBor Chain) (q₁ q₂ q₃ p : Bor (Li
     year-reads.Asked κs (lent, (q₁, (q₂, (q₃, (p, (buffer, tt))))))
 year_asks κs lent q₁ q₂ q₃ p buffer = tt
 
-pub renew_asks : (κs : Lfts 3) (c : Chain) (w g a : Bor (List ℕ)) → renew-reads.Asked κs (c, (w, (g, (a, tt))))
-renew_asks κs c w g a = tt
+pub renew_asks : (κs : Lfts 2) (c : Chain) (lent : Bor Lists) → renew-reads.Asked κs (c, (lent, tt))
+renew_asks κs c lent = tt
 
-pub renew_outside_asks : (κs : Lfts 4) (c : Chain) (w g a marks : Bor (List ℕ)) (domain : ℕ) →
-    renew-outside-reads.Asked κs (c, (w, (g, (a, (marks, (domain, tt))))))
-renew_outside_asks κs c w g a marks domain = tt
+pub renew_outside_asks : (κs : Lfts 3) (c : Chain) (lent : Bor Lists) (marks : Bor (List ℕ)) (domain : ℕ) →
+    renew-outside-reads.Asked κs (c, (lent, (marks, (domain, tt))))
+renew_outside_asks κs c lent marks domain = tt
 
 -- a renewal of the code, with or without an outside share, is the definitions'
 renewed : {c : Chain} {p : Panel} {o : Result Chain Refusal} → PanelRenewed c p o →

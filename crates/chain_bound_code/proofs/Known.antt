@@ -45,12 +45,12 @@ module _ (w : World) (γ : Env) where
   KnownBy = Known w.𝓛 (Over w.𝓛 w.𝓜 w.𝓡 γ)
 
   pub open_known : Wired w.𝓡.env open-symbol.code → γ open-symbol.name ≡ w.𝓡.env open-symbol.name →
-      KnownBy 3 open-kinds.ps open-kinds.r open-reads.Asked open-reads.Learnt open-symbol.name
+      KnownBy 2 open-kinds.ps open-kinds.r open-reads.Asked open-reads.Learnt open-symbol.name
   open_known wired same =
       open-reads.known w γ open-symbol.name (w.𝓡.env open-symbol.name) same (open-theorem.met w.𝓤 w.𝓛 w.𝓜 w.𝓡 wired)
 
   pub open_outside_known : Wired w.𝓡.env open-outside-symbol.code → γ open-outside-symbol.name ≡ w.𝓡.env open-outside-symbol.name →
-      KnownBy 4 open-outside-kinds.ps open-outside-kinds.r open-outside-reads.Asked open-outside-reads.Learnt open-outside-symbol.name
+      KnownBy 3 open-outside-kinds.ps open-outside-kinds.r open-outside-reads.Asked open-outside-reads.Learnt open-outside-symbol.name
   open_outside_known wired same =
       open-outside-reads.known w γ open-outside-symbol.name (w.𝓡.env open-outside-symbol.name) same (open-outside-theorem.met w.𝓤 w.𝓛 w.𝓜 w.𝓡 wired)
 
@@ -70,11 +70,11 @@ module _ (w : World) (γ : Env) where
       year-reads.known w γ year-symbol.name (w.𝓡.env year-symbol.name) same (year-theorem.met w.𝓤 w.𝓛 w.𝓜 w.𝓡 wired)
 
   pub renew_known : Wired w.𝓡.env renew-symbol.code → γ renew-symbol.name ≡ w.𝓡.env renew-symbol.name →
-      KnownBy 3 renew-kinds.ps renew-kinds.r renew-reads.Asked renew-reads.Learnt renew-symbol.name
+      KnownBy 2 renew-kinds.ps renew-kinds.r renew-reads.Asked renew-reads.Learnt renew-symbol.name
   renew_known wired same =
       renew-reads.known w γ renew-symbol.name (w.𝓡.env renew-symbol.name) same (renew-theorem.met w.𝓤 w.𝓛 w.𝓜 w.𝓡 wired)
 
   pub renew_outside_known : Wired w.𝓡.env renew-outside-symbol.code → γ renew-outside-symbol.name ≡ w.𝓡.env renew-outside-symbol.name →
-      KnownBy 4 renew-outside-kinds.ps renew-outside-kinds.r renew-outside-reads.Asked renew-outside-reads.Learnt renew-outside-symbol.name
+      KnownBy 3 renew-outside-kinds.ps renew-outside-kinds.r renew-outside-reads.Asked renew-outside-reads.Learnt renew-outside-symbol.name
   renew_outside_known wired same =
       renew-outside-reads.known w γ renew-outside-symbol.name (w.𝓡.env renew-outside-symbol.name) same (renew-outside-theorem.met w.𝓤 w.𝓛 w.𝓜 w.𝓡 wired)

@@ -20,6 +20,8 @@ use Rattle.chain.specs.contracts.Chain.quarter as quarter-contract
 use Rattle.chain.proofs.Chain.quarter.Reads as quarter-reads
 use Rattle.chain.specs.contracts.Chain.close as close-contract
 use Rattle.chain.proofs.Chain.close.Reads as close-reads
+use Rattle.chain_open_input.specs.Lists.{over}
+use Rattle.chain_open_input.specs.declared.Lists.{Lists}
 use Rattle.chain_open.specs.Opened.{opening_of}
 use Rattle.chain_open.specs.contracts.«open» as open-contract
 use Rattle.chain_open.proofs.«open».Reads as open-reads
@@ -34,41 +36,41 @@ use Rattle.chain_renew.proofs.renew.Reads as renew-reads
 use Rattle.chain_renew.specs.contracts.renew_outside as renew-outside-contract
 use Rattle.chain_renew.proofs.renew_outside.Reads as renew-outside-reads
 
--- `chain_open::open` of the slices w, g and a and of start returned o; `w.now` is what w holds.
-pub record OpenMade (w g a : Bor (List ℕ)) (start : ℕ) (o : Result Chain Refusal) : Type 0 where
-  pub lifetimes : Lfts 3
+-- `chain_open::open` of the lent lists and of start returned o; `lent.now` is what was lent.
+pub record OpenMade (lent : Bor Lists) (start : ℕ) (o : Result Chain Refusal) : Type 0 where
+  pub lifetimes : Lfts 2
   pub end : AtExit open-contract.ended lifetimes
-  pub learnt : open-reads.Learnt lifetimes (w, (g, (a, (start, tt)))) o end
+  pub learnt : open-reads.Learnt lifetimes (lent, (start, tt)) o end
 
--- `chain_open::open_outside` of the slices w, g and a, of start, of the marks and of share returned o.
-pub record OpenOutsideMade (w g a : Bor (List ℕ)) (start : ℕ) (marks : Bor (List ℕ)) (domain : ℕ) (o : Result Chain Refusal) : Type 0 where
-  pub lifetimes : Lfts 4
+-- `chain_open::open_outside` of the lent lists, of start, of the marks and of share returned o.
+pub record OpenOutsideMade (lent : Bor Lists) (start : ℕ) (marks : Bor (List ℕ)) (domain : ℕ) (o : Result Chain Refusal) : Type 0 where
+  pub lifetimes : Lfts 3
   pub end : AtExit open-outside-contract.ended lifetimes
-  pub learnt : open-outside-reads.Learnt lifetimes (w, (g, (a, (start, (marks, (domain, tt)))))) o end
+  pub learnt : open-outside-reads.Learnt lifetimes (lent, (start, (marks, (domain, tt)))) o end
 
 -- Either of the two, with the panel that it was handed.
 pub data PanelOpened : Panel → ℕ → Result Chain Refusal → Type 0 where
-  without : {w g a : Bor (List ℕ)} {start : ℕ} {o : Result Chain Refusal} → OpenMade w g a start o → PanelOpened (plain w.now g.now a.now) start o
-  outside : {w g a : Bor (List ℕ)} {start : ℕ} {marks : Bor (List ℕ)} {domain : ℕ} {o : Result Chain Refusal} →
-      OpenOutsideMade w g a start marks domain o → PanelOpened (with_domain domain marks.now w.now g.now a.now) start o
+  without : {lent : Bor Lists} {start : ℕ} {o : Result Chain Refusal} → OpenMade lent start o → PanelOpened (over plain lent.now) start o
+  outside : {lent : Bor Lists} {start : ℕ} {marks : Bor (List ℕ)} {domain : ℕ} {o : Result Chain Refusal} →
+      OpenOutsideMade lent start marks domain o → PanelOpened (over (with_domain domain marks.now) lent.now) start o
 
--- `chain_renew::renew` of c and the slices w, g and a returned o
-pub record RenewMade (c : Chain) (w g a : Bor (List ℕ)) (o : Result Chain Refusal) : Type 0 where
-  pub lifetimes : Lfts 3
+-- `chain_renew::renew` of c and the lent lists returned o
+pub record RenewMade (c : Chain) (lent : Bor Lists) (o : Result Chain Refusal) : Type 0 where
+  pub lifetimes : Lfts 2
   pub end : AtExit renew-contract.ended lifetimes
-  pub learnt : renew-reads.Learnt lifetimes (c, (w, (g, (a, tt)))) o end
+  pub learnt : renew-reads.Learnt lifetimes (c, (lent, tt)) o end
 
 -- `chain_renew::renew_outside` of these, of the marks and of the outside share returned o
-pub record RenewOutsideMade (c : Chain) (w g a marks : Bor (List ℕ)) (domain : ℕ) (o : Result Chain Refusal) : Type 0 where
-  pub lifetimes : Lfts 4
+pub record RenewOutsideMade (c : Chain) (lent : Bor Lists) (marks : Bor (List ℕ)) (domain : ℕ) (o : Result Chain Refusal) : Type 0 where
+  pub lifetimes : Lfts 3
   pub end : AtExit renew-outside-contract.ended lifetimes
-  pub learnt : renew-outside-reads.Learnt lifetimes (c, (w, (g, (a, (marks, (domain, tt)))))) o end
+  pub learnt : renew-outside-reads.Learnt lifetimes (c, (lent, (marks, (domain, tt)))) o end
 
 -- Either of the two, with the panel that it was handed.
 pub data PanelRenewed : Chain → Panel → Result Chain Refusal → Type 0 where
-  without : {c : Chain} {w g a : Bor (List ℕ)} {o : Result Chain Refusal} → RenewMade c w g a o → PanelRenewed c (plain w.now g.now a.now) o
-  outside : {c : Chain} {w g a marks : Bor (List ℕ)} {domain : ℕ} {o : Result Chain Refusal} →
-      RenewOutsideMade c w g a marks domain o → PanelRenewed c (with_domain domain marks.now w.now g.now a.now) o
+  without : {c : Chain} {lent : Bor Lists} {o : Result Chain Refusal} → RenewMade c lent o → PanelRenewed c (over plain lent.now) o
+  outside : {c : Chain} {lent : Bor Lists} {marks : Bor (List ℕ)} {domain : ℕ} {o : Result Chain Refusal} →
+      RenewOutsideMade c lent marks domain o → PanelRenewed c (over (with_domain domain marks.now) lent.now) o
 
 -- `Chain::quarter` of c and the slice p returned r
 pub record QuarterMade (c : Chain) (p : Bor (List ℕ)) (r : Answered) : Type 0 where

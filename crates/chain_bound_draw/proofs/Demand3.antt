@@ -20,6 +20,7 @@ use Rattle.rules.proofs.Refusals.{given_tells}
 use Rattle.std.specs.Prelude.{Result, Ok}
 use Rattle.refusals.specs.declared.Refusal.{Refusal}
 use Rattle.chain.specs.declared.Chain.{Chain}
+use Rattle.chain_open_input.specs.declared.Lists.{Lists}
 use Rattle.chain_bound_code.specs.Calls.{OpenMade, PanelOpened, CallsMade}
 use Rattle.chain_bound_code.proofs.Demand3.{demand3}
 use Rattle.draw_key.specs.declared.Method.{Method}
@@ -38,11 +39,11 @@ use Rattle.chain_bound_draw.specs.Drawing.{DrawMade, drawn_weights}
 abbrev pub Covered : List ℕ → List ℕ → List ℕ → ℕ → List Made → List Event → Type 0
 Covered ws gs rs index list given = (given ≡ events (panel_record (plain ws gs rs) index) list) × AllWithin (direct_open (plain ws gs rs) index) given
 
--- w, the list that the open was handed, holds ws
-pub demand3_handed : (ws : List ℕ) (w g a : Bor (List ℕ)) (index : ℕ) (o : Result Chain Refusal) → w.now ≡ ws → OpenMade w g a index o → (c : Chain) → o ≡ Ok c →
-    (list : List Made) (given : List Event) → CallsMade c list given → Covered ws g.now a.now index list given
-demand3_handed ws w g a index o handed opened c accepted list given follow =
-    subst (λ (v : List ℕ). Covered v g.now a.now index list given) handed (demand3 _ index o (PanelOpened.without opened) c accepted list given follow)
+-- the W that the open was handed are ws
+pub demand3_handed : (ws : List ℕ) (units : Bor Lists) (index : ℕ) (o : Result Chain Refusal) → units.now.weights.now ≡ ws → OpenMade units index o → (c : Chain) → o ≡ Ok c →
+    (list : List Made) (given : List Event) → CallsMade c list given → Covered ws units.now.shares.now units.now.relatives.now index list given
+demand3_handed ws units index o handed opened c accepted list given follow =
+    subst (λ (v : List ℕ). Covered v units.now.shares.now units.now.relatives.now index list given) handed (demand3 _ index o (PanelOpened.without opened) c accepted list given follow)
 
 -- A draw asks nothing of its caller.
 pub draw_asks :
@@ -74,7 +75,7 @@ module _ (method : Method) (lent : Bor Frame) (z start : ℕ) (numbers weights :
       let size = z_weights (method_of method) f z start (draw_accepted f z start numbers.now weights.now none).none in
       ap (take z) all ∙ take_at panel (drop (length panel) weights.now) z size
 
-  -- The theorem: w, the list that the open was handed, holds those first z places.
-  pub demand3_drawn : (w g a : Bor (List ℕ)) (index : ℕ) (o : Result Chain Refusal) → w.now ≡ take z ws → OpenMade w g a index o → (c : Chain) → o ≡ Ok c →
-      (list : List Made) (given : List Event) → CallsMade c list given → Covered panel g.now a.now index list given
-  demand3_drawn w g a index o handed = demand3_handed panel w g a index o (handed ∙ weights_are)
+  -- The theorem: the W that the open was handed are those first z places.
+  pub demand3_drawn : (units : Bor Lists) (index : ℕ) (o : Result Chain Refusal) → units.now.weights.now ≡ take z ws → OpenMade units index o → (c : Chain) → o ≡ Ok c →
+      (list : List Made) (given : List Event) → CallsMade c list given → Covered panel units.now.shares.now units.now.relatives.now index list given
+  demand3_drawn units index o handed = demand3_handed panel units index o (handed ∙ weights_are)

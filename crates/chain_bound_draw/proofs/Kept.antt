@@ -17,6 +17,7 @@ use Rattle.rules.proofs.Refusals.{given_tells}
 use Rattle.std.specs.Prelude.{Result, Ok}
 use Rattle.refusals.specs.declared.Refusal.{Refusal}
 use Rattle.chain.specs.declared.Chain.{Chain}
+use Rattle.chain_open_input.specs.declared.Lists.{Lists}
 use Rattle.chain_bound_code.specs.Calls.{OpenMade, CallsMade}
 use Rattle.draw_key.specs.declared.Method.{Method}
 use Rattle.draw_key.specs.Methods.{method_of}
@@ -58,7 +59,7 @@ module _ (method : Method) (lent : Bor Frame) (z start : ℕ) (lists : Bor Keepi
       let size = kept_weights_lem (method_of method) f z start (kept_accepted f z start p numbers.now weights.now none).drawn.none p in
       ap (take z) all ∙ take_at panel (drop (length panel) weights.now) z size
 
-  -- The theorem: w, the list that the open was handed, holds those first z places.
-  pub demand3_kept : (w g a : Bor (List ℕ)) (index : ℕ) (o : Result Chain Refusal) → w.now ≡ take z ws → OpenMade w g a index o → (c : Chain) → o ≡ Ok c →
-      (list : List Made) (given : List Event) → CallsMade c list given → Covered panel g.now a.now index list given
-  demand3_kept w g a index o handed = demand3_handed panel w g a index o (handed ∙ weights_are)
+  -- The theorem: the W that the open was handed are those first z places.
+  pub demand3_kept : (units : Bor Lists) (index : ℕ) (o : Result Chain Refusal) → units.now.weights.now ≡ take z ws → OpenMade units index o → (c : Chain) → o ≡ Ok c →
+      (list : List Made) (given : List Event) → CallsMade c list given → Covered panel units.now.shares.now units.now.relatives.now index list given
+  demand3_kept units index o handed = demand3_handed panel units index o (handed ∙ weights_are)

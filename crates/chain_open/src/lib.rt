@@ -6,10 +6,12 @@ ghost use Rattle.std.specs.Prelude.{◌≡◌, ◌≤◌, length};
 ghost use Rattle.rules.specs.Limits.{most_panel};
 ghost use Rattle.rules.specs.Chain.{open_answer};
 ghost use Rattle.rules.specs.Panel.{with_domain, panel_answer};
+ghost use Rattle.chain_open_input.specs.Lists.{over};
 ghost use Rattle.chain_open_weights.specs.Weighable.{Weighable};
 ghost use Rattle.chain_open.specs.Opened.{opening_of, weighed_answer};
 
 use chain::Chain;
+use chain_open_input::Lists;
 use chain_record::Numbers;
 use limits::MOST_PANEL;
 use refusals::Refusal;
@@ -28,30 +30,23 @@ fn open_from(marks: &[u32], u: &[u64], a: &[u32], start: u64) -> Result<Chain, R
     })
 }
 
-pub fn open(w: &[u64], g: &[u32], a: &[u32], start: u64) -> Result<Chain, Refusal>
-    ensures { opening_of result ≡ open_answer w.now g.now a.now start }
+pub fn open(lists: &Lists, start: u64) -> Result<Chain, Refusal>
+    ensures { opening_of result ≡ over open_answer lists.now start }
 {
-    chain_open_input::judge_input(w, g, a, start)?;
-    let n = w.len();
+    chain_open_input::judge_input(lists, start)?;
+    let n = lists.weights.len();
     let mut u = [0u64; MOST_PANEL];
-    chain_open_weights::share_into(w, g, &mut u[..n]);
-    open_from(g, &u[..n], a, start)
+    chain_open_weights::share_into(lists.weights, lists.shares, &mut u[..n]);
+    open_from(lists.shares, &u[..n], lists.relatives, start)
 }
 
 // The opening with an outside share. A mark that is not 0 says that the unit was sampled.
-pub fn open_outside(
-    w: &[u64],
-    g: &[u32],
-    a: &[u32],
-    start: u64,
-    marks: &[u8],
-    domain: u32,
-) -> Result<Chain, Refusal>
-    ensures { opening_of result ≡ panel_answer (with_domain domain marks.now w.now g.now a.now) start }
+pub fn open_outside(lists: &Lists, start: u64, marks: &[u8], domain: u32) -> Result<Chain, Refusal>
+    ensures { opening_of result ≡ panel_answer (over (with_domain domain marks.now) lists.now) start }
 {
-    chain_share::judge(w, g, a, start, marks, domain)?;
-    let n = w.len();
+    chain_share::judge(lists, start, marks, domain)?;
+    let n = lists.weights.len();
     let mut shared = [0u64; MOST_PANEL];
-    chain_share::share_into(w, g, marks, domain, &mut shared[..n]);
-    open_from(g, &shared[..n], a, start)
+    chain_share::share_into(lists.weights, lists.shares, marks, domain, &mut shared[..n]);
+    open_from(lists.shares, &shared[..n], lists.relatives, start)
 }

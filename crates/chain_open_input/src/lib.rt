@@ -4,15 +4,27 @@
 ghost use Rattle.std.specs.Prelude.{◌≡◌};
 ghost use Rattle.refusals.specs.Number.{refusal_of};
 ghost use Rattle.rules.specs.Chain.{bad_open_lists, bad_base, bad_shares, open_input_refusal};
+ghost use Rattle.chain_open_input.specs.Lists.{over};
 
 use chain_weight::bad_relative;
 use limits::{SHARE_SCALE, bad_index, bad_units};
 use refusals::Refusal;
 
+// The lists of an opening, as a caller lends them: base weights W, shares g and updating relatives a, one of each for a unit.
+#[derive(Clone, Copy)]
+pub struct Lists<'a> {
+    pub weights: &'a [u64],
+    pub shares: &'a [u32],
+    pub relatives: &'a [u32],
+}
+
 // 9: lists empty, over a panel, or unequal to each other.
-fn bad_lists(w: &[u64], g: &[u32], a: &[u32]) -> bool
-    ensures { result ≡ bad_open_lists w.now g.now a.now }
+fn bad_lists(lists: &Lists) -> bool
+    ensures { result ≡ over bad_open_lists lists.now }
 {
+    let w = lists.weights;
+    let g = lists.shares;
+    let a = lists.relatives;
     if bad_units(w.len()) {
         return true;
     }
@@ -34,23 +46,25 @@ fn bad_shares(g: &[u32]) -> bool
 }
 
 // 9 to 13.
-pub fn judge_input(w: &[u64], g: &[u32], a: &[u32], start: u64) -> Result<(), Refusal>
-    ensures { refusal_of result ≡ open_input_refusal w.now g.now a.now start }
+pub fn judge_input(lists: &Lists, start: u64) -> Result<(), Refusal>
+    ensures { refusal_of result ≡ over open_input_refusal lists.now start }
 {
-    if bad_lists(w, g, a) {
+    if bad_lists(lists) {
         return Err(Refusal::UnitLists);
     }
-    if bad_base(w) {
+    if bad_base(lists.weights) {
         return Err(Refusal::BaseWeights);
     }
-    if bad_shares(g) {
+    if bad_shares(lists.shares) {
         return Err(Refusal::Shares);
     }
     if bad_index(start) {
         return Err(Refusal::StartIndex);
     }
-    if g.iter()
-        .zip(a)
+    if lists
+        .shares
+        .iter()
+        .zip(lists.relatives)
         .any(|(mark, update)| bad_relative(u64::from(*mark), *update))
     {
         return Err(Refusal::Relatives);

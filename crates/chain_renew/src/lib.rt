@@ -8,9 +8,11 @@ ghost use Rattle.rules.specs.Chain.{broken};
 ghost use Rattle.rules.specs.Panel.{plain, with_domain};
 ghost use Rattle.rules.specs.Renewal.{with_links, renewal_answer};
 ghost use Rattle.chain.specs.Record.{record_of};
+ghost use Rattle.chain_open_input.specs.Lists.{over};
 ghost use Rattle.chain_open.specs.Opened.{opening_of};
 
 use chain::Chain;
+use chain_open_input::Lists;
 use chain_record::Numbers;
 use refusals::Refusal;
 
@@ -35,26 +37,24 @@ fn carried(opened: Chain, before: Numbers) -> Chain
 }
 
 // A renewal. Nothing of the record but its C and its links goes on; 19 judges all of it. Where it is refused, the caller's record is what it was.
-pub fn renew(chain: Chain, w: &[u64], g: &[u32], a: &[u32]) -> Result<Chain, Refusal>
-    ensures { opening_of result ≡ renewal_answer (record_of chain) (plain w.now g.now a.now) }
+pub fn renew(chain: Chain, lists: &Lists) -> Result<Chain, Refusal>
+    ensures { opening_of result ≡ renewal_answer (record_of chain) (over plain lists.now) }
 {
     judge(&chain)?;
-    let opened = chain_open::open(w, g, a, chain.numbers.index)?;
+    let opened = chain_open::open(lists, chain.numbers.index)?;
     Ok(carried(opened, chain.numbers))
 }
 
 // A renewal with an outside share. A mark that is not 0 says that the unit was sampled.
 pub fn renew_outside(
     chain: Chain,
-    w: &[u64],
-    g: &[u32],
-    a: &[u32],
+    lists: &Lists,
     marks: &[u8],
     domain: u32,
 ) -> Result<Chain, Refusal>
-    ensures { opening_of result ≡ renewal_answer (record_of chain) (with_domain domain marks.now w.now g.now a.now) }
+    ensures { opening_of result ≡ renewal_answer (record_of chain) (over (with_domain domain marks.now) lists.now) }
 {
     judge(&chain)?;
-    let outside = chain_open::open_outside(w, g, a, chain.numbers.index, marks, domain)?;
+    let outside = chain_open::open_outside(lists, chain.numbers.index, marks, domain)?;
     Ok(carried(outside, chain.numbers))
 }

@@ -6,8 +6,10 @@ ghost use Rattle.std.specs.Prelude.{◌≡◌, ◌*◌, ◌/◌, ◌<◌, ◌^�
 ghost use Rattle.refusals.specs.Number.{refusal_of};
 ghost use Rattle.rules.specs.Limits.{share_scale};
 ghost use Rattle.rules.specs.Panel.{shared_unit, each_unit, outside_shared, bad_outside, outside_input_refusal};
+ghost use Rattle.chain_open_input.specs.Lists.{over};
 ghost use Rattle.chain_share.specs.Outsideable.{Marked, Layable, Outsideable};
 
+use chain_open_input::Lists;
 use limits::SHARE_SCALE;
 use refusals::Refusal;
 
@@ -34,21 +36,15 @@ fn bad_outside(marks: &[u8], w: &[u64], g: &[u32], domain: u32) -> bool
 }
 
 // 9 to 13, and then 29.
-pub fn judge(
-    w: &[u64],
-    g: &[u32],
-    a: &[u32],
-    start: u64,
-    marks: &[u8],
-    domain: u32,
-) -> Result<(), Refusal>
-    ensures { refusal_of result ≡ outside_input_refusal domain marks.now w.now g.now a.now start }
+pub fn judge(lists: &Lists, start: u64, marks: &[u8], domain: u32) -> Result<(), Refusal>
+    ensures { refusal_of result ≡ over (outside_input_refusal domain marks.now) lists.now start }
 {
+    let w = lists.weights;
     if marks.len() != w.len() {
         return Err(Refusal::UnitLists);
     }
-    chain_open_input::judge_input(w, g, a, start)?;
-    if bad_outside(marks, w, g, domain) {
+    chain_open_input::judge_input(lists, start)?;
+    if bad_outside(marks, w, lists.shares, domain) {
         return Err(Refusal::OutsideShare);
     }
     Ok(())

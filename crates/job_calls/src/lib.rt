@@ -7,6 +7,7 @@ ghost use Rattle.job_state.specs.Steps.{Steps};
 ghost use Rattle.job_calls.specs.Commands.{command_by, saying_of};
 
 use chain::Kind;
+use chain_open_input::Lists;
 use job_state::{Job, Saying, Stepped, said, with_chain, within};
 use limits::MOST_PANEL;
 use refusals::Refusal;
@@ -22,7 +23,12 @@ pub fn on_open(job: Job, start: u64) -> Stepped
     let panel = job.panel;
     let shares = job.shares;
     let pending = job.pending;
-    let opened = chain_open::open(&panel[..size], &shares[..size], &pending[..size], start);
+    let lists = Lists {
+        weights: &panel[..size],
+        shares: &shares[..size],
+        relatives: &pending[..size],
+    };
+    let opened = chain_open::open(&lists, start);
     match opened {
         Err(why) => said(job, Err(why)),
         Ok(chain) => said(with_chain(job, chain), Ok(Saying::Nothing)),

@@ -1,12 +1,14 @@
 // Document 02, [10]: the quotas' whole parts and remainders, by T' (`rest`), the strengths left (`total`) and the marks of the sectors that left.
 #![tactic(auto)]
 
-ghost use Rattle.std.specs.Prelude.{◌≡◌, cond, ◌*◌, ◌/◌, ◌%◌, ◌≤◌, ◌<◌, length, not};
+ghost use Rattle.std.specs.Prelude.{◌≡◌, cond, ◌*◌, ◌/◌, ◌%◌, ◌≤◌, ◌<◌, not};
 ghost use Rattle.rules.specs.Limits.{highest_strength, most_interviews};
-ghost use Rattle.rules.specs.Allocation.{in_places};
+ghost use Rattle.rules.specs.Allocation.{sectors, in_places};
+ghost use Rattle.sector_judge.specs.Sharing.{sharing_of};
 ghost use Rattle.sector_divide.specs.Quotas.{count_by, whole_by, remainder_by, Dividable};
 
 use limits::MOST_SECTORS;
+use sector_judge::Sharing;
 
 // The three lists of the answer: a struct for C holds the same three, so they are no list of parts.
 #[derive(Drop)]
@@ -48,16 +50,17 @@ fn quota(rest: u64, total: u64, strength: u64, minimum: u64, gone: bool) -> Part
 }
 
 // Minima and whole parts, before one more each.
-pub fn divide(rest: u64, total: u64, strengths: &[u64], minima: &[u64], gone: &[bool]) -> Quotas
-    requires { Dividable rest total strengths.now minima.now gone.now }
-    ensures counts_value { result.counts ≡ in_places (length strengths.now) (count_by rest total strengths.now minima.now gone.now) }
-    ensures wholes_value { result.wholes ≡ in_places (length strengths.now) (whole_by rest total strengths.now gone.now) }
-    ensures remainders_value { result.remainders ≡ in_places (length strengths.now) (remainder_by rest total strengths.now gone.now) }
+pub fn divide(rest: u64, total: u64, sharing: &Sharing, gone: &[bool]) -> Quotas
+    requires { Dividable rest total (sharing_of sharing.now) gone.now }
+    ensures counts_value { result.counts ≡ in_places (sectors (sharing_of sharing.now)) (count_by rest total (sharing_of sharing.now) gone.now) }
+    ensures wholes_value { result.wholes ≡ in_places (sectors (sharing_of sharing.now)) (whole_by rest total (sharing_of sharing.now) gone.now) }
+    ensures remainders_value { result.remainders ≡ in_places (sectors (sharing_of sharing.now)) (remainder_by rest total (sharing_of sharing.now) gone.now) }
 {
+    let minima = sharing.minima;
     let mut counts = [0; MOST_SECTORS];
     let mut wholes = [0; MOST_SECTORS];
     let mut remainders = [0; MOST_SECTORS];
-    for (i, strength) in strengths.iter().enumerate() {
+    for (i, strength) in sharing.strengths.iter().enumerate() {
         let part = quota(rest, total, *strength, minima[i], gone[i]);
         counts[i] = part.count;
         wholes[i] = part.whole;

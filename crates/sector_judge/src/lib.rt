@@ -1,13 +1,22 @@
-// Document 02, [10]: refusal 31.
+// Document 02, [10]: what is shared over sectors, and refusal 31.
 #![tactic(auto)]
 
 ghost use Rattle.std.specs.Prelude.{◌≡◌, ◌||◌, ltb};
 ghost use Rattle.std.specs.List.{list_any};
 ghost use Rattle.rules.specs.Limits.{lowest_strength, highest_strength};
 ghost use Rattle.rules.specs.Lists.{sum};
-ghost use Rattle.rules.specs.Allocation.{sharing, bad_sharing};
+ghost use Rattle.rules.specs.Allocation.{bad_sharing};
+ghost use Rattle.sector_judge.specs.Sharing.{sharing_of};
 
 use limits::{HIGHEST_STRENGTH, LOWEST_STRENGTH, MOST_INTERVIEWS, MOST_SECTORS};
+
+// T interviews for sectors, each with a strength and a minimum, as a caller lends them.
+#[derive(Clone, Copy)]
+pub struct Sharing<'a> {
+    pub interviews: u64,
+    pub strengths: &'a [u64],
+    pub minima: &'a [u64],
+}
 
 fn bad_strengths(strengths: &[u64]) -> bool
     ensures { result ≡ list_any (λ x. ltb x lowest_strength || ltb highest_strength x) strengths.now }
@@ -30,9 +39,12 @@ fn exceed(minima: &[u64], interviews: u64) -> bool
 }
 
 // 31: the lists, a strength, T, and the minima.
-pub fn bad_sharing(interviews: u64, strengths: &[u64], minima: &[u64]) -> bool
-    ensures { result ≡ bad_sharing (sharing interviews strengths.now minima.now) }
+pub fn bad_sharing(sharing: &Sharing) -> bool
+    ensures { result ≡ bad_sharing (sharing_of sharing.now) }
 {
+    let strengths = sharing.strengths;
+    let minima = sharing.minima;
+    let interviews = sharing.interviews;
     if minima.len() != strengths.len() {
         return true;
     }

@@ -21,9 +21,9 @@ use Rattle.sector_passes.specs.Marks.{still_in, is_below, Summable, Passable}
 use Rattle.sector_passes.proofs.Marked.{still_is}
 
 -- a minimum that is not there is 0, and no quota is below it
-pub beyond_below : (rest total : ℕ) (ss ms : List ℕ) (k : ℕ) → length ms ≤ k → is_below rest total ss ms k ≡ false
-beyond_below rest total ss ms k l =
-    le-ltb (rest * get_or ss k 0) (get_or ms k 0 * total) (rw (get_or-eq_default ms 0 {n = k} l, zero-mul total) zero-le)
+pub beyond_below : (rest total : ℕ) (a : Sharing) (k : ℕ) → length a.minima ≤ k → is_below rest total a k ≡ false
+beyond_below rest total a k l =
+    le-ltb (rest * strength a k) (minimum a k * total) (rw (get_or-eq_default a.minima 0 {n = k} l, zero-mul total) zero-le)
 
 pub zeros_at : (n i : ℕ) → ◌≡◌ {A = ℕ} (get_or (replicate n 0) i 0) 0
 zeros_at zero i = refl
@@ -69,7 +69,7 @@ module _ (a : Sharing) (ok : Accepted a) (gone : List Bool) (full : length gone 
     unfolding strengths_left
     total_is = d
 
-    pub pass_asks : Passable (a.interviews - given) total a.strengths a.minima gone
+    pub pass_asks : Passable (a.interviews - given) total a gone
     pass_asks = record {
       same = ok.same;
       room = omega (arith, full, ok.few);
@@ -80,18 +80,18 @@ module _ (a : Sharing) (ok : Accepted a) (gone : List Bool) (full : length gone 
     }
 
     abbrev low : ℕ → Bool
-    low = is_below (a.interviews - given) total a.strengths a.minima
+    low = is_below (a.interviews - given) total a
 
     -- so a pass is the definition's
     pub leaves_are : (leave : ℕ) → leave ≡ count (λ i. still_in gone i and low i) (sectors a) → leave ≡ count (leaving a (still_in gone)) (sectors a)
     unfolding leaving quota_below
     leaves_are leave m =
-        m ∙ ap₂ (λ (r t : ℕ). count (λ i. still_in gone i and is_below r t a.strengths a.minima i) (sectors a)) rest_is total_is
+        m ∙ ap₂ (λ (r t : ℕ). count (λ i. still_in gone i and is_below r t a i) (sectors a)) rest_is total_is
 
     pub stays_are : (new : List Bool) → ((i : ℕ) → still_in new i ≡ (still_in gone i and not (low i))) → still_in new ≡ staying a (still_in gone)
     unfolding staying quota_below
     stays_are new h =
-        fun_ext h ∙ ap₂ {C = ℕ → Bool} (λ (r t : ℕ). λ i. still_in gone i and not (is_below r t a.strengths a.minima i)) rest_is total_is
+        fun_ext h ∙ ap₂ {C = ℕ → Bool} (λ (r t : ℕ). λ i. still_in gone i and not (is_below r t a i)) rest_is total_is
 
 -- ---- the passes
 module _ (a : Sharing) (ok : Accepted a) where
@@ -104,7 +104,7 @@ module _ (a : Sharing) (ok : Accepted a) where
       none i h =
           by_order i (sectors a)
           (λ l. sym (and_on (still i) (quota_below a still i) h) ∙ count_rest (leaving a still) 0 (sectors a) (count_zero _ ∙ sym e) i zero-le l)
-          (λ l. beyond_below (remaining a still) (strengths_left a still) a.strengths a.minima i (omega (arith, ok.same)))
+          (λ l. beyond_below (remaining a still) (strengths_left a still) a i (omega (arith, ok.same)))
 
   pub passes_start : stayed a ≡ passes (sectors a - 0) a (still_in (replicate most_sectors false))
   unfolding stayed

@@ -2,6 +2,7 @@
 use Rattle.std.specs.Prelude.{◌≡◌, Bool, true, false, not, List, ℕ, ◌*◌, ◌≤◌, ◌<◌, length, get_or, ltb}
 use Rattle.rules.specs.Limits.{most_sectors, highest_strength, most_interviews}
 use Rattle.rules.specs.Selection.{sum_of, every}
+use Rattle.rules.specs.Allocation.{Sharing, sectors, strength, minimum}
 
 -- sector i is still there: it has no mark, as it has none beyond the marks
 unfoldable pub still_in : List Bool → ℕ → Bool
@@ -17,8 +18,8 @@ abbrev pub value_of : List ℕ → ℕ → ℕ
 value_of values i = get_or values i 0
 
 -- the quota of sector i, rest × strength / total, is below its minimum
-abbrev pub is_below : ℕ → ℕ → List ℕ → List ℕ → ℕ → Bool
-is_below rest total ss ms i = ltb (rest * get_or ss i 0) (get_or ms i 0 * total)
+abbrev pub is_below : ℕ → ℕ → Sharing → ℕ → Bool
+is_below rest total a i = ltb (rest * strength a i) (minimum a i * total)
 
 -- There is a mark for each value, and their sum is as low as strengths and minima are.
 pub record Summable (values : List ℕ) (gone : List Bool) : Type 0 where
@@ -26,10 +27,10 @@ pub record Summable (values : List ℕ) (gone : List Bool) : Type 0 where
   pub low : sum_of every (value_of values) (length values) ≤ most_sectors * highest_strength
 
 -- There is a minimum and a mark for each strength, and the products of a pass fit.
-pub record Passable (rest total : ℕ) (ss ms : List ℕ) (gone : List Bool) : Type 0 where
-  pub same : length ms ≡ length ss
-  pub room : length ss ≤ length gone
-  pub strong : (i : ℕ) → i < length ss → get_or ss i 0 ≤ highest_strength
-  pub least : (i : ℕ) → i < length ss → get_or ms i 0 ≤ most_interviews
+pub record Passable (rest total : ℕ) (a : Sharing) (gone : List Bool) : Type 0 where
+  pub same : length a.minima ≡ sectors a
+  pub room : sectors a ≤ length gone
+  pub strong : (i : ℕ) → i < sectors a → strength a i ≤ highest_strength
+  pub least : (i : ℕ) → i < sectors a → minimum a i ≤ most_interviews
   pub few : rest ≤ most_interviews
   pub low : total ≤ most_sectors * highest_strength

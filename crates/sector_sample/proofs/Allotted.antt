@@ -63,26 +63,26 @@ module _ (a : Sharing) (gone : List Bool) (given total : ℕ) (known : Ready a g
   total_same = total_is a ok gone known.full given total known.minima_are known.strengths_are
 
   -- ---- the division
-  pub dividable : Dividable rest total a.strengths a.minima gone
+  pub dividable : Dividable rest total a gone
   dividable = record {
     same = ok.same;
     room = omega (arith, known.full, ok.few);
-    sectors = ok.few;
+    places = ok.few;
     some = omega (arith, total_same, total_some a ok still done);
     few = omega (arith, ok.most);
     strong = λ i l. (ok.strong i l).1;
   }
 
-  wholes_same : whole_by rest total a.strengths gone ≡ whole_part a still
+  wholes_same : whole_by rest total a gone ≡ whole_part a still
   unfolding whole_part
-  wholes_same = ap₂ {C = ℕ → ℕ} (λ (r t : ℕ). whole_by r t a.strengths gone) rest_same total_same
+  wholes_same = ap₂ {C = ℕ → ℕ} (λ (r t : ℕ). whole_by r t a gone) rest_same total_same
 
-  remainders_same : remainder_by rest total a.strengths gone ≡ remainder a still
+  remainders_same : remainder_by rest total a gone ≡ remainder a still
   unfolding remainder
-  remainders_same = ap₂ {C = ℕ → ℕ} (λ (r t : ℕ). remainder_by r t a.strengths gone) rest_same total_same
+  remainders_same = ap₂ {C = ℕ → ℕ} (λ (r t : ℕ). remainder_by r t a gone) rest_same total_same
 
   -- a count before one more: the whole part, or the minimum
-  first_count : (i : ℕ) → count_by rest total a.strengths a.minima gone i ≡ cond (still i) (whole_part a still i) (minimum a i)
+  first_count : (i : ℕ) → count_by rest total a gone i ≡ cond (still i) (whole_part a still i) (minimum a i)
   first_count i =
       by_test (still i)
       (λ h. rw h (ap₂ (λ (r t : ℕ). r * strength a i / t) rest_same total_same ∙ sym (whole_is a ok still done i h)))
@@ -96,12 +96,12 @@ module _ (a : Sharing) (gone : List Bool) (given total : ℕ) (known : Ready a g
       (λ h. rw h zero-le)
 
   -- ---- what is left to give
-  module _ (ws : List ℕ) (w : ws ≡ in_places (sectors a) (whole_by rest total a.strengths gone)) where
+  module _ (ws : List ℕ) (w : ws ≡ in_places (sectors a) (whole_by rest total a gone)) where
     pub wholes_are : ws ≡ in_places (sectors a) (whole_part a (stayed a))
     wholes_are = w ∙ ap (in_places (sectors a)) (wholes_same ∙ ap (whole_part a) known.settled)
 
     pub wholes_room : sectors a ≤ length ws
-    wholes_room = omega (arith, ap length w, places_length (sectors a) (whole_by rest total a.strengths gone) ok.few, ok.few)
+    wholes_room = omega (arith, ap length w, places_length (sectors a) (whole_by rest total a gone) ok.few, ok.few)
 
     front : take (sectors a) ws ≡ listed every (whole_part a still) (sectors a)
     front = ap (take (sectors a)) (w ∙ ap (in_places (sectors a)) wholes_same) ∙ places_front (sectors a) (whole_part a still)
@@ -135,8 +135,8 @@ module _ (a : Sharing) (gone : List Bool) (given total : ℕ) (known : Ready a g
       more_same = ap₂ (λ (r t : ℕ). r - t) rest_same (s ∙ front_sum still)
 
       -- ---- one more each
-      module _ (rs cs : List ℕ) (r : rs ≡ in_places (sectors a) (remainder_by rest total a.strengths gone))
-          (c : cs ≡ in_places (sectors a) (count_by rest total a.strengths a.minima gone)) where
+      module _ (rs cs : List ℕ) (r : rs ≡ in_places (sectors a) (remainder_by rest total a gone))
+          (c : cs ≡ in_places (sectors a) (count_by rest total a gone)) where
         pub remainders_are : rs ≡ in_places (sectors a) (remainder a (stayed a))
         remainders_are = r ∙ ap (in_places (sectors a)) (remainders_same ∙ ap (remainder a) known.settled)
 
@@ -152,9 +152,9 @@ module _ (a : Sharing) (gone : List Bool) (given total : ℕ) (known : Ready a g
         pub givable : Givable rs gone (sectors a) (rest - sum) cs
         givable = record {
           few = ok.few;
-          keys = omega (arith, ap length r, places_length (sectors a) (remainder_by rest total a.strengths gone) ok.few, ok.few);
+          keys = omega (arith, ap length r, places_length (sectors a) (remainder_by rest total a gone) ok.few, ok.few);
           marks = omega (arith, known.full, ok.few);
-          room = omega (arith, ap length c, places_length (sectors a) (count_by rest total a.strengths a.minima gone) ok.few, ok.few);
+          room = omega (arith, ap length c, places_length (sectors a) (count_by rest total a gone) ok.few, ok.few);
           enough = omega (arith, more_same, few_more a ok still done);
           low = count_low;
         }

@@ -2,25 +2,27 @@
 #![tactic(auto)]
 
 ghost use Rattle.std.specs.Prelude.{◌≡◌};
-ghost use Rattle.rules.specs.Allocation.{sharing, count_list, whole_list, remainder_list, sample_refusal, sample_counts, sample_wholes, sample_remainders};
+ghost use Rattle.rules.specs.Allocation.{count_list, whole_list, remainder_list, sample_refusal, sample_counts, sample_wholes, sample_remainders};
 ghost use Rattle.sector_quota.specs.Accepted.{Accepted};
+ghost use Rattle.sector_judge.specs.Sharing.{sharing_of};
 ghost use Rattle.sector_sample.specs.Shared.{share_refusal, counts_of, wholes_of, remainders_of};
 
 use refusals::Refusal;
 use sector_divide::Quotas;
+use sector_judge::Sharing;
 
 // The three lists of an input that 31 leaves: the passes, the quotas of those that are still there, and one more each.
-fn allot(interviews: u64, strengths: &[u64], minima: &[u64]) -> Quotas
-    requires { Accepted (sharing interviews strengths.now minima.now) }
-    ensures counts_value { result.counts ≡ count_list (sharing interviews strengths.now minima.now) }
-    ensures wholes_value { result.wholes ≡ whole_list (sharing interviews strengths.now minima.now) }
-    ensures remainders_value { result.remainders ≡ remainder_list (sharing interviews strengths.now minima.now) }
+fn allot(sharing: &Sharing) -> Quotas
+    requires { Accepted (sharing_of sharing.now) }
+    ensures counts_value { result.counts ≡ count_list (sharing_of sharing.now) }
+    ensures wholes_value { result.wholes ≡ whole_list (sharing_of sharing.now) }
+    ensures remainders_value { result.remainders ≡ remainder_list (sharing_of sharing.now) }
 {
-    let n = strengths.len();
-    let gone = sector_passes::settle(interviews, strengths, minima);
-    let rest = interviews - sector_passes::sum_gone(minima, &gone);
-    let total = sector_passes::sum_still(strengths, &gone);
-    let quotas = sector_divide::divide(rest, total, strengths, minima, &gone);
+    let n = sharing.strengths.len();
+    let gone = sector_passes::settle(sharing);
+    let rest = sharing.interviews - sector_passes::sum_gone(sharing.minima, &gone);
+    let total = sector_passes::sum_still(sharing.strengths, &gone);
+    let quotas = sector_divide::divide(rest, total, sharing, &gone);
     let wholes = quotas.wholes;
     let more = rest - sector_passes::sum_still(&wholes[..n], &gone);
     let remainders = quotas.remainders;
@@ -34,14 +36,14 @@ fn allot(interviews: u64, strengths: &[u64], minima: &[u64]) -> Quotas
 }
 
 // T interviews shared over sectors by strengths and minima, or refusal 31.
-pub fn share(interviews: u64, strengths: &[u64], minima: &[u64]) -> Result<Quotas, Refusal>
-    ensures verdict_value { share_refusal result ≡ sample_refusal (sharing interviews strengths.now minima.now) }
-    ensures counts_value { counts_of result ≡ sample_counts (sharing interviews strengths.now minima.now) }
-    ensures wholes_value { wholes_of result ≡ sample_wholes (sharing interviews strengths.now minima.now) }
-    ensures remainders_value { remainders_of result ≡ sample_remainders (sharing interviews strengths.now minima.now) }
+pub fn share(sharing: &Sharing) -> Result<Quotas, Refusal>
+    ensures verdict_value { share_refusal result ≡ sample_refusal (sharing_of sharing.now) }
+    ensures counts_value { counts_of result ≡ sample_counts (sharing_of sharing.now) }
+    ensures wholes_value { wholes_of result ≡ sample_wholes (sharing_of sharing.now) }
+    ensures remainders_value { remainders_of result ≡ sample_remainders (sharing_of sharing.now) }
 {
-    if sector_judge::bad_sharing(interviews, strengths, minima) {
+    if sector_judge::bad_sharing(sharing) {
         return Err(Refusal::Sample);
     }
-    Ok(allot(interviews, strengths, minima))
+    Ok(allot(sharing))
 }

@@ -47,28 +47,28 @@ module _ (ws gs rs : List ℕ) (start : ℕ) where
       u_is = take_at _ _ _ length_u ∙ e
 
 pub slice_bounds-u-end : goal.slice_bounds-u-end
-slice_bounds-u-end c = most c.args.w.now c.args.g.now c.args.a.now c.args.start (sym c.in_ok-judge_input.ensures)
+slice_bounds-u-end c = most c.args.lists.now.weights.now c.args.lists.now.shares.now c.args.lists.now.relatives.now c.args.start (sym c.in_ok-judge_input.ensures)
 
 pub slice_bounds-share_into-end : goal.slice_bounds-share_into-end
-slice_bounds-share_into-end c = sym (front _ (most c.args.w.now c.args.g.now c.args.a.now c.args.start (sym c.in_ok-judge_input.ensures)))
+slice_bounds-share_into-end c = sym (front _ (most c.args.lists.now.weights.now c.args.lists.now.shares.now c.args.lists.now.relatives.now c.args.start (sym c.in_ok-judge_input.ensures)))
 
 pub share_into-requires : goal.share_into-requires
-share_into-requires c = shareable _ _ _ (opens c.args.w.now c.args.g.now c.args.a.now c.args.start (sym c.in_ok-judge_input.ensures)) _ (front _ (most c.args.w.now c.args.g.now c.args.a.now c.args.start (sym c.in_ok-judge_input.ensures)))
+share_into-requires c = shareable _ _ _ (opens c.args.lists.now.weights.now c.args.lists.now.shares.now c.args.lists.now.relatives.now c.args.start (sym c.in_ok-judge_input.ensures)) _ (front _ (most c.args.lists.now.weights.now c.args.lists.now.shares.now c.args.lists.now.relatives.now c.args.start (sym c.in_ok-judge_input.ensures)))
 
 pub slice_bounds-u-end-2 : goal.slice_bounds-u-end-2
-slice_bounds-u-end-2 c = u_room c.args.w.now c.args.g.now c.args.a.now c.args.start (sym c.in_ok-judge_input.ensures) _ c.share_into.ensures
+slice_bounds-u-end-2 c = u_room c.args.lists.now.weights.now c.args.lists.now.shares.now c.args.lists.now.relatives.now c.args.start (sym c.in_ok-judge_input.ensures) _ c.share_into.ensures
 
 pub slice_bounds-open_from-end : goal.slice_bounds-open_from-end
-slice_bounds-open_from-end c = sym (length-take-le _ _ (u_room c.args.w.now c.args.g.now c.args.a.now c.args.start (sym c.in_ok-judge_input.ensures) _ c.share_into.ensures))
+slice_bounds-open_from-end c = sym (length-take-le _ _ (u_room c.args.lists.now.weights.now c.args.lists.now.shares.now c.args.lists.now.relatives.now c.args.start (sym c.in_ok-judge_input.ensures) _ c.share_into.ensures))
 
 pub open_from-requires : goal.open_from-requires
-open_from-requires c = let o = opens c.args.w.now c.args.g.now c.args.a.now c.args.start (sym c.in_ok-judge_input.ensures) in
-    rw (u_is c.args.w.now c.args.g.now c.args.a.now c.args.start (sym c.in_ok-judge_input.ensures) _ c.share_into.ensures) (weighable _ _ _ o, omega (arith, length_shared _ _ _ o, most c.args.w.now c.args.g.now c.args.a.now c.args.start (sym c.in_ok-judge_input.ensures)))
+open_from-requires c = let o = opens c.args.lists.now.weights.now c.args.lists.now.shares.now c.args.lists.now.relatives.now c.args.start (sym c.in_ok-judge_input.ensures) in
+    rw (u_is c.args.lists.now.weights.now c.args.lists.now.shares.now c.args.lists.now.relatives.now c.args.start (sym c.in_ok-judge_input.ensures) _ c.share_into.ensures) (weighable _ _ _ o, omega (arith, length_shared _ _ _ o, most c.args.lists.now.weights.now c.args.lists.now.shares.now c.args.lists.now.relatives.now c.args.start (sym c.in_ok-judge_input.ensures)))
 
 pub returns-in_err-judge_input : goal.returns-in_err-judge_input
 returns-in_err-judge_input c = let p = err_from_is_err_and c.from_residual.result c.from_residual.ensures.1 in
-    rw (p.1, p.2) (refused_input c.args.w.now c.args.g.now c.args.a.now c.args.start _ c.in_err-judge_input.ensures)
+    rw (p.1, p.2) (refused_input c.args.lists.now.weights.now c.args.lists.now.shares.now c.args.lists.now.relatives.now c.args.start _ c.in_err-judge_input.ensures)
 
 pub returns : goal.returns
 returns c = let none = sym c.in_ok-judge_input.ensures in
-    c.open_from.ensures ∙ weighed c.args.w.now c.args.g.now c.args.a.now c.args.start _ (u_is c.args.w.now c.args.g.now c.args.a.now c.args.start none _ c.share_into.ensures) none
+    c.open_from.ensures ∙ weighed c.args.lists.now.weights.now c.args.lists.now.shares.now c.args.lists.now.relatives.now c.args.start _ (u_is c.args.lists.now.weights.now c.args.lists.now.shares.now c.args.lists.now.relatives.now c.args.start none _ c.share_into.ensures) none

@@ -75,28 +75,28 @@ module _ (domain : ℕ) (ms ws gs rs : List ℕ) (start : ℕ) where
       u_is = take_at _ _ _ length_u ∙ e
 
 pub slice_bounds-shared-end : goal.slice_bounds-shared-end
-slice_bounds-shared-end c = most c.args.domain c.args.marks.now c.args.w.now c.args.g.now c.args.a.now c.args.start (sym c.in_ok-judge.ensures)
+slice_bounds-shared-end c = most c.args.domain c.args.marks.now c.args.lists.now.weights.now c.args.lists.now.shares.now c.args.lists.now.relatives.now c.args.start (sym c.in_ok-judge.ensures)
 
 pub slice_bounds-share_into-end : goal.slice_bounds-share_into-end
-slice_bounds-share_into-end c = sym (front _ (most c.args.domain c.args.marks.now c.args.w.now c.args.g.now c.args.a.now c.args.start (sym c.in_ok-judge.ensures)))
+slice_bounds-share_into-end c = sym (front _ (most c.args.domain c.args.marks.now c.args.lists.now.weights.now c.args.lists.now.shares.now c.args.lists.now.relatives.now c.args.start (sym c.in_ok-judge.ensures)))
 
 pub share_into-requires : goal.share_into-requires
-share_into-requires c = let p = passed c.args.domain c.args.marks.now c.args.w.now c.args.g.now c.args.a.now c.args.start (sym c.in_ok-judge.ensures) in outsideable _ _ _ _ _ p.opens p.marks p.outside _ (front _ (most c.args.domain c.args.marks.now c.args.w.now c.args.g.now c.args.a.now c.args.start (sym c.in_ok-judge.ensures)))
+share_into-requires c = let p = passed c.args.domain c.args.marks.now c.args.lists.now.weights.now c.args.lists.now.shares.now c.args.lists.now.relatives.now c.args.start (sym c.in_ok-judge.ensures) in outsideable _ _ _ _ _ p.opens p.marks p.outside _ (front _ (most c.args.domain c.args.marks.now c.args.lists.now.weights.now c.args.lists.now.shares.now c.args.lists.now.relatives.now c.args.start (sym c.in_ok-judge.ensures)))
 
 pub slice_bounds-shared-end-2 : goal.slice_bounds-shared-end-2
-slice_bounds-shared-end-2 c = u_room c.args.domain c.args.marks.now c.args.w.now c.args.g.now c.args.a.now c.args.start (sym c.in_ok-judge.ensures) _ c.share_into.ensures
+slice_bounds-shared-end-2 c = u_room c.args.domain c.args.marks.now c.args.lists.now.weights.now c.args.lists.now.shares.now c.args.lists.now.relatives.now c.args.start (sym c.in_ok-judge.ensures) _ c.share_into.ensures
 
 pub slice_bounds-open_from-end : goal.slice_bounds-open_from-end
-slice_bounds-open_from-end c = sym (length-take-le _ _ (u_room c.args.domain c.args.marks.now c.args.w.now c.args.g.now c.args.a.now c.args.start (sym c.in_ok-judge.ensures) _ c.share_into.ensures))
+slice_bounds-open_from-end c = sym (length-take-le _ _ (u_room c.args.domain c.args.marks.now c.args.lists.now.weights.now c.args.lists.now.shares.now c.args.lists.now.relatives.now c.args.start (sym c.in_ok-judge.ensures) _ c.share_into.ensures))
 
 pub open_from-requires : goal.open_from-requires
-open_from-requires c = let p = passed c.args.domain c.args.marks.now c.args.w.now c.args.g.now c.args.a.now c.args.start (sym c.in_ok-judge.ensures) in
-    rw (u_is c.args.domain c.args.marks.now c.args.w.now c.args.g.now c.args.a.now c.args.start (sym c.in_ok-judge.ensures) _ c.share_into.ensures) (outside_weighable _ _ _ _ _ p.opens p.marks p.outside, omega (arith, long c.args.domain c.args.marks.now c.args.w.now c.args.g.now c.args.a.now c.args.start (sym c.in_ok-judge.ensures), most c.args.domain c.args.marks.now c.args.w.now c.args.g.now c.args.a.now c.args.start (sym c.in_ok-judge.ensures)))
+open_from-requires c = let p = passed c.args.domain c.args.marks.now c.args.lists.now.weights.now c.args.lists.now.shares.now c.args.lists.now.relatives.now c.args.start (sym c.in_ok-judge.ensures) in
+    rw (u_is c.args.domain c.args.marks.now c.args.lists.now.weights.now c.args.lists.now.shares.now c.args.lists.now.relatives.now c.args.start (sym c.in_ok-judge.ensures) _ c.share_into.ensures) (outside_weighable _ _ _ _ _ p.opens p.marks p.outside, omega (arith, long c.args.domain c.args.marks.now c.args.lists.now.weights.now c.args.lists.now.shares.now c.args.lists.now.relatives.now c.args.start (sym c.in_ok-judge.ensures), most c.args.domain c.args.marks.now c.args.lists.now.weights.now c.args.lists.now.shares.now c.args.lists.now.relatives.now c.args.start (sym c.in_ok-judge.ensures)))
 
 pub returns-in_err-judge : goal.returns-in_err-judge
 returns-in_err-judge c = let p = err_from_is_err_and c.from_residual.result c.from_residual.ensures.1 in
-    rw (p.1, p.2) (refused_input c.args.domain c.args.marks.now c.args.w.now c.args.g.now c.args.a.now c.args.start _ c.in_err-judge.ensures)
+    rw (p.1, p.2) (refused_input c.args.domain c.args.marks.now c.args.lists.now.weights.now c.args.lists.now.shares.now c.args.lists.now.relatives.now c.args.start _ c.in_err-judge.ensures)
 
 pub returns : goal.returns
 returns c = let none = sym c.in_ok-judge.ensures in
-    c.open_from.ensures ∙ weighed c.args.domain c.args.marks.now c.args.w.now c.args.g.now c.args.a.now c.args.start _ (u_is c.args.domain c.args.marks.now c.args.w.now c.args.g.now c.args.a.now c.args.start none _ c.share_into.ensures) none
+    c.open_from.ensures ∙ weighed c.args.domain c.args.marks.now c.args.lists.now.weights.now c.args.lists.now.shares.now c.args.lists.now.relatives.now c.args.start _ (u_is c.args.domain c.args.marks.now c.args.lists.now.weights.now c.args.lists.now.shares.now c.args.lists.now.relatives.now c.args.start none _ c.share_into.ensures) none

@@ -32,18 +32,18 @@ returns-then-bad_base c = simp (sym c.bad_lists.ensures ∙ c.if-bad_lists.false
 
 pub returns-then-bad_shares : goal.returns-then-bad_shares
 unfolding refuse ◌then◌
-returns-then-bad_shares c = rw (rest c.args.w.now c.args.g.now c.args.a.now c.args.start (sym c.bad_lists.ensures ∙ c.if-bad_lists.false) (sym c.bad_base.ensures ∙ c.if-bad_base.false), sym c.bad_shares.ensures ∙ c.if-bad_shares.true)
+returns-then-bad_shares c = rw (rest c.args.lists.now.weights.now c.args.lists.now.shares.now c.args.lists.now.relatives.now c.args.start (sym c.bad_lists.ensures ∙ c.if-bad_lists.false) (sym c.bad_base.ensures ∙ c.if-bad_base.false), sym c.bad_shares.ensures ∙ c.if-bad_shares.true)
 
 pub returns-then-bad_index : goal.returns-then-bad_index
 unfolding refuse ◌then◌
-returns-then-bad_index c = rw (rest c.args.w.now c.args.g.now c.args.a.now c.args.start (sym c.bad_lists.ensures ∙ c.if-bad_lists.false) (sym c.bad_base.ensures ∙ c.if-bad_base.false), sym c.bad_shares.ensures ∙ c.if-bad_shares.false, sym c.bad_index.ensures ∙ c.if-bad_index.true)
+returns-then-bad_index c = rw (rest c.args.lists.now.weights.now c.args.lists.now.shares.now c.args.lists.now.relatives.now c.args.start (sym c.bad_lists.ensures ∙ c.if-bad_lists.false) (sym c.bad_base.ensures ∙ c.if-bad_base.false), sym c.bad_shares.ensures ∙ c.if-bad_shares.false, sym c.bad_index.ensures ∙ c.if-bad_index.true)
 
 pub returns-then-any : goal.returns-then-any
 unfolding refuse
-returns-then-any c = let bad = any_two bad_relative c.args.g.now c.args.a.now c.any.new.self c.any.ensures.ran (search rules) (search rules) (λ x b q k. search rules) in
-    rw (last c.args.w.now c.args.g.now c.args.a.now c.args.start (sym c.bad_lists.ensures ∙ c.if-bad_lists.false) (sym c.bad_base.ensures ∙ c.if-bad_base.false) (sym c.bad_shares.ensures ∙ c.if-bad_shares.false) (sym c.bad_index.ensures ∙ c.if-bad_index.false), sym bad ∙ c.if-any.true)
+returns-then-any c = let bad = any_two bad_relative c.args.lists.now.shares.now c.args.lists.now.relatives.now c.any.new.self c.any.ensures.ran (search rules) (search rules) (λ x b q k. search rules) in
+    rw (last c.args.lists.now.weights.now c.args.lists.now.shares.now c.args.lists.now.relatives.now c.args.start (sym c.bad_lists.ensures ∙ c.if-bad_lists.false) (sym c.bad_base.ensures ∙ c.if-bad_base.false) (sym c.bad_shares.ensures ∙ c.if-bad_shares.false) (sym c.bad_index.ensures ∙ c.if-bad_index.false), sym bad ∙ c.if-any.true)
 
 pub returns : goal.returns
 unfolding refuse
-returns c = let bad = any_two bad_relative c.args.g.now c.args.a.now c.any.new.self c.any.ensures.ran (search rules) (search rules) (λ x b q k. search rules) in
-    rw (last c.args.w.now c.args.g.now c.args.a.now c.args.start (sym c.bad_lists.ensures ∙ c.if-bad_lists.false) (sym c.bad_base.ensures ∙ c.if-bad_base.false) (sym c.bad_shares.ensures ∙ c.if-bad_shares.false) (sym c.bad_index.ensures ∙ c.if-bad_index.false), sym bad ∙ c.if-any.false)
+returns c = let bad = any_two bad_relative c.args.lists.now.shares.now c.args.lists.now.relatives.now c.any.new.self c.any.ensures.ran (search rules) (search rules) (λ x b q k. search rules) in
+    rw (last c.args.lists.now.weights.now c.args.lists.now.shares.now c.args.lists.now.relatives.now c.args.start (sym c.bad_lists.ensures ∙ c.if-bad_lists.false) (sym c.bad_base.ensures ∙ c.if-bad_base.false) (sym c.bad_shares.ensures ∙ c.if-bad_shares.false) (sym c.bad_index.ensures ∙ c.if-bad_index.false), sym bad ∙ c.if-any.false)

@@ -9,11 +9,11 @@ use Rattle.chain_renew.proofs.renew_outside.Goals as goal
 
 pub returns-in_err-judge : goal.returns-in_err-judge
 returns-in_err-judge c = let p = err_from_is_err_and c.from_residual.result c.from_residual.ensures.1 in
-    rw (p.1, p.2) (broken_refused (record_of c.args.chain) (with_domain c.args.domain c.args.marks.now c.args.w.now c.args.g.now c.args.a.now) _ c.in_err-judge.ensures)
+    rw (p.1, p.2) (broken_refused (record_of c.args.chain) (with_domain c.args.domain c.args.marks.now c.args.lists.now.weights.now c.args.lists.now.shares.now c.args.lists.now.relatives.now) _ c.in_err-judge.ensures)
 
 pub returns-in_err-outside : goal.returns-in_err-outside
 returns-in_err-outside c = let p = err_from_is_err_and c.from_residual-in_err-outside.result c.from_residual-in_err-outside.ensures.1 in
-    rw (p.1, p.2) (carries_on (record_of c.args.chain) (with_domain c.args.domain c.args.marks.now c.args.w.now c.args.g.now c.args.a.now) c.in_ok-judge.ensures _ c.in_err-outside.ensures)
+    rw (p.1, p.2) (carries_on (record_of c.args.chain) (with_domain c.args.domain c.args.marks.now c.args.lists.now.weights.now c.args.lists.now.shares.now c.args.lists.now.relatives.now) c.in_ok-judge.ensures _ c.in_err-outside.ensures)
 
 pub returns : goal.returns
-returns c = ap Judged.given c.carried.ensures ∙ carries_on (record_of c.args.chain) (with_domain c.args.domain c.args.marks.now c.args.w.now c.args.g.now c.args.a.now) c.in_ok-judge.ensures _ c.in_ok-outside.ensures
+returns c = ap Judged.given c.carried.ensures ∙ carries_on (record_of c.args.chain) (with_domain c.args.domain c.args.marks.now c.args.lists.now.weights.now c.args.lists.now.shares.now c.args.lists.now.relatives.now) c.in_ok-judge.ensures _ c.in_ok-outside.ensures

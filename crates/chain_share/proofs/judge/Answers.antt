@@ -39,16 +39,16 @@ unfolding outside_input_refusal refuse ◌then◌
 returns-then-marks-w c = rw (ne_eqb _ _ c.if-marks-w.true)
 
 pub bad_outside-requires : goal.bad_outside-requires
-bad_outside-requires c = marked_at c.args.domain c.args.marks.now c.args.w.now c.args.g.now c.args.a.now c.args.start c.if-marks-w.false (sym c.in_ok-judge_input.ensures)
+bad_outside-requires c = marked_at c.args.domain c.args.marks.now c.args.lists.now.weights.now c.args.lists.now.shares.now c.args.lists.now.relatives.now c.args.start c.if-marks-w.false (sym c.in_ok-judge_input.ensures)
 
 pub returns-then-bad_outside : goal.returns-then-bad_outside
 unfolding refuse
-returns-then-bad_outside c = rw (last c.args.domain c.args.marks.now c.args.w.now c.args.g.now c.args.a.now c.args.start c.if-marks-w.false (sym c.in_ok-judge_input.ensures), sym c.bad_outside.ensures ∙ c.if-bad_outside.true)
+returns-then-bad_outside c = rw (last c.args.domain c.args.marks.now c.args.lists.now.weights.now c.args.lists.now.shares.now c.args.lists.now.relatives.now c.args.start c.if-marks-w.false (sym c.in_ok-judge_input.ensures), sym c.bad_outside.ensures ∙ c.if-bad_outside.true)
 
 pub returns-in_err-judge_input : goal.returns-in_err-judge_input
 returns-in_err-judge_input c = let p = err_from_is_err_and c.from_residual.result c.from_residual.ensures.1 in
-    rw (p.1, p.2) (refused c.args.domain _ _ c.args.g.now c.args.a.now c.args.start _ c.if-marks-w.false c.in_err-judge_input.ensures)
+    rw (p.1, p.2) (refused c.args.domain _ _ c.args.lists.now.shares.now c.args.lists.now.relatives.now c.args.start _ c.if-marks-w.false c.in_err-judge_input.ensures)
 
 pub returns : goal.returns
 unfolding refuse
-returns c = rw (last c.args.domain c.args.marks.now c.args.w.now c.args.g.now c.args.a.now c.args.start c.if-marks-w.false (sym c.in_ok-judge_input.ensures), sym c.bad_outside.ensures ∙ c.if-bad_outside.false)
+returns c = rw (last c.args.domain c.args.marks.now c.args.lists.now.weights.now c.args.lists.now.shares.now c.args.lists.now.relatives.now c.args.start c.if-marks-w.false (sym c.in_ok-judge_input.ensures), sym c.bad_outside.ensures ∙ c.if-bad_outside.false)

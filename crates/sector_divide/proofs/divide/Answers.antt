@@ -19,7 +19,7 @@ unfolding still_in
 loop-i-preserved c =
     let w = c.loop-i.invariant in
     let more = c.loop-i-test.true in
-    let few = w.asked.sectors in
+    let few = w.asked.places in
     record {
       most = omega (arith, more);
       asked = w.asked;
@@ -31,7 +31,7 @@ loop-i-preserved c =
 pub returns : goal.returns
 returns c =
     let w = c.loop-i.invariant in
-    let few = w.asked.sectors in
+    let few = w.asked.places in
     let end = c.loop-i-test.false in
     record {
       counts_value = laid_all _ _ few _ _ w.count w.most end;

@@ -2,17 +2,18 @@
 use mathlib.Core.Bool.{Bool}
 use mathlib.Core.List.{List}
 use Prim.Native.Nat.{ℕ, ◌≤◌}
-use lib.ListN.{length}
+use Rattle.rules.specs.Allocation.{Sharing, sectors}
+use Rattle.sector_judge.specs.Sharing.{sharing_of}
 use Rattle.sector_divide.specs.Quotas.{count_by, whole_by, remainder_by, Dividable}
 use Rattle.sector_divide.proofs.Laid.{Laid}
 use Rattle.sector_divide.proofs.divide.Given as goal
 
-pub record Divided (rest total : ℕ) (ss ms : List ℕ) (gone : List Bool) (counts wholes remainders : List ℕ) (i : ℕ) : Type 0 where
-  pub most : i ≤ length ss
-  pub asked : Dividable rest total ss ms gone
-  pub count : Laid (length ss) (count_by rest total ss ms gone) i counts
-  pub whole : Laid (length ss) (whole_by rest total ss gone) i wholes
-  pub remainder : Laid (length ss) (remainder_by rest total ss gone) i remainders
+pub record Divided (rest total : ℕ) (a : Sharing) (gone : List Bool) (counts wholes remainders : List ℕ) (i : ℕ) : Type 0 where
+  pub most : i ≤ sectors a
+  pub asked : Dividable rest total a gone
+  pub count : Laid (sectors a) (count_by rest total a gone) i counts
+  pub whole : Laid (sectors a) (whole_by rest total a gone) i wholes
+  pub remainder : Laid (sectors a) (remainder_by rest total a gone) i remainders
 
 abbrev pub invariant-loop-i : goal.invariant-loop-i
-invariant-loop-i l = Divided l.rest l.total l.strengths l.minima l.gone l.counts l.wholes l.remainders l.i
+invariant-loop-i l = Divided l.rest l.total (sharing_of l.sharing) l.gone l.counts l.wholes l.remainders l.i

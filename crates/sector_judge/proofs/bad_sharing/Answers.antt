@@ -24,18 +24,18 @@ unfolding bad_sharing ◌or◌
 returns-then-bad_strengths c = let equal = eq-eqb _ _ c.if-minima-strengths.false in
     let some = sym c.is_empty.ensures ∙ c.if-is_empty.false in
     let few = le-ltb _ _ c.if-strengths-gt-MOST_SECTORS.false in
-    simp (equal, some, few, sym (outside_as lowest_strength highest_strength c.args.strengths.now) ∙ sym c.bad_strengths.ensures ∙ c.if-bad_strengths.true)
+    simp (equal, some, few, sym (outside_as lowest_strength highest_strength c.args.sharing.now.strengths.now) ∙ sym c.bad_strengths.ensures ∙ c.if-bad_strengths.true)
 
 pub returns-then-interviews-gt-MOST_INTERVIEWS : goal.returns-then-interviews-gt-MOST_INTERVIEWS
 unfolding bad_sharing ◌or◌
 returns-then-interviews-gt-MOST_INTERVIEWS c = let equal = eq-eqb _ _ c.if-minima-strengths.false in
     let some = sym c.is_empty.ensures ∙ c.if-is_empty.false in
     let few = le-ltb _ _ c.if-strengths-gt-MOST_SECTORS.false in
-    simp (equal, some, few, sym (outside_as lowest_strength highest_strength c.args.strengths.now) ∙ sym c.bad_strengths.ensures ∙ c.if-bad_strengths.false, lt-ltb _ _ c.if-interviews-gt-MOST_INTERVIEWS.true)
+    simp (equal, some, few, sym (outside_as lowest_strength highest_strength c.args.sharing.now.strengths.now) ∙ sym c.bad_strengths.ensures ∙ c.if-bad_strengths.false, lt-ltb _ _ c.if-interviews-gt-MOST_INTERVIEWS.true)
 
 pub returns : goal.returns
 unfolding bad_sharing ◌or◌
 returns c = let equal = eq-eqb _ _ c.if-minima-strengths.false in
     let some = sym c.is_empty.ensures ∙ c.if-is_empty.false in
     let few = le-ltb _ _ c.if-strengths-gt-MOST_SECTORS.false in
-    simp (equal, some, few, sym (outside_as lowest_strength highest_strength c.args.strengths.now) ∙ sym c.bad_strengths.ensures ∙ c.if-bad_strengths.false, le-ltb _ _ c.if-interviews-gt-MOST_INTERVIEWS.false, c.exceed.ensures)
+    simp (equal, some, few, sym (outside_as lowest_strength highest_strength c.args.sharing.now.strengths.now) ∙ sym c.bad_strengths.ensures ∙ c.if-bad_strengths.false, le-ltb _ _ c.if-interviews-gt-MOST_INTERVIEWS.false, c.exceed.ensures)

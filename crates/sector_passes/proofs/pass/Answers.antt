@@ -5,6 +5,8 @@ use Prim.Native.Nat.{ℕ, ◌≤◌, ◌<◌}
 use native.Mathlib.Omega.{arith}
 use borrow.Author.Tests.{lt-ltb, le-ltb}
 use lib.ListN.{length, length-set}
+use Rattle.rules.specs.Allocation.{sectors}
+use Rattle.sector_judge.specs.Sharing.{sharing_of}
 use Rattle.sector_passes.specs.Marks.{still_in, is_below}
 use Rattle.sector_passes.proofs.Passed.{Passed, passed_none, passed_same, passed_all, turn_gone, turn_stays, turn_leaves}
 use Rattle.sector_passes.proofs.Settling.{beyond_below}
@@ -18,7 +20,7 @@ pub loop-i-preserved : goal.loop-i-preserved
 loop-i-preserved c =
     let a = c.args in
     let still = still_in a.gone.now in
-    let below = is_below a.rest a.total a.strengths.now a.minima.now in
+    let below = is_below a.rest a.total (sharing_of a.sharing.now) in
     let at = c.loop-i in
     let l = c.loop-i-test.true in
     let room : at.i < length at.gone = omega (arith, l, at.invariant.same, c.requires.room) in
@@ -45,10 +47,10 @@ pub returns : goal.returns
 returns c =
     let a = c.args in
     let still = still_in a.gone.now in
-    let below = is_below a.rest a.total a.strengths.now a.minima.now in
+    let below = is_below a.rest a.total (sharing_of a.sharing.now) in
     let at = c.loop-i in
-    let end : at.i ≡ length a.strengths.now = omega (arith, at.invariant.most, c.loop-i-test.false) in
+    let end : at.i ≡ sectors (sharing_of a.sharing.now) = omega (arith, at.invariant.most, c.loop-i-test.false) in
     let w = subst (λ (k : ℕ). Passed still below at.gone k at.leave) end at.invariant.marks in
-    let beyond : (k : ℕ) → length a.strengths.now ≤ k → below k ≡ false =
-    λ k l. beyond_below a.rest a.total a.strengths.now a.minima.now k (omega (arith, l, c.requires.same)) in
+    let beyond : (k : ℕ) → sectors (sharing_of a.sharing.now) ≤ k → below k ≡ false =
+    λ k l. beyond_below a.rest a.total (sharing_of a.sharing.now) k (omega (arith, l, c.requires.same)) in
     record { value = w.many; by_index = passed_all still below _ _ _ beyond w }

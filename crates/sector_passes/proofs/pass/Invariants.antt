@@ -2,17 +2,19 @@
 use mathlib.Core.Path.{◌≡◌}
 use mathlib.Core.Bool.{Bool}
 use mathlib.Core.List.{List}
+use Rattle.rules.specs.Allocation.{Sharing, sectors}
+use Rattle.sector_judge.specs.Sharing.{sharing_of}
 use Rattle.sector_passes.specs.Marks.{still_in, is_below}
 use Rattle.sector_passes.proofs.Passed.{Passed}
 use Prim.Native.Nat.{ℕ, ◌≤◌}
 use lib.ListN.{length}
 use Rattle.sector_passes.proofs.pass.Given as goal
 
-pub record Turned (rest total : ℕ) (ss ms : List ℕ) (gone₀ gone : List Bool) (leave i : ℕ) : Type 0 where
-  pub most : i ≤ length ss
+pub record Turned (rest total : ℕ) (a : Sharing) (gone₀ gone : List Bool) (leave i : ℕ) : Type 0 where
+  pub most : i ≤ sectors a
   pub few : leave ≤ i
   pub same : length gone ≡ length gone₀
-  pub marks : Passed (still_in gone₀) (is_below rest total ss ms) gone i leave
+  pub marks : Passed (still_in gone₀) (is_below rest total a) gone i leave
 
 abbrev pub invariant-loop-i : goal.invariant-loop-i
-invariant-loop-i l = Turned l.rest l.total l.strengths l.minima l.initial.gone l.gone l.leave l.i
+invariant-loop-i l = Turned l.rest l.total (sharing_of l.sharing) l.initial.gone l.gone l.leave l.i

@@ -6,7 +6,8 @@ use Rattle.rules.specs.Limits.{most_sectors}
 use Rattle.sector_passes.specs.Marks.{still_in}
 use Prim.Native.Nat.{ℕ, ◌-◌, ◌≤◌}
 use lib.ListN.{length}
-use Rattle.rules.specs.Allocation.{Sharing, sharing, sectors, passes, stayed}
+use Rattle.rules.specs.Allocation.{Sharing, sectors, passes, stayed}
+use Rattle.sector_judge.specs.Sharing.{sharing_of}
 use Rattle.sector_passes.proofs.settle.Given as goal
 
 pub record Going (a : Sharing) (gone : List Bool) (k : ℕ) : Type 0 where
@@ -15,4 +16,4 @@ pub record Going (a : Sharing) (gone : List Bool) (k : ℕ) : Type 0 where
   pub rest : stayed a ≡ passes (sectors a - k) a (still_in gone)
 
 abbrev pub invariant-loop-k : goal.invariant-loop-k
-invariant-loop-k l = Going (sharing l.interviews l.strengths l.minima) l.gone l._k
+invariant-loop-k l = Going (sharing_of l.sharing) l.gone l._k
