@@ -20,13 +20,11 @@ pub fn count(marks: &[u8], g: &[u32]) -> Tally
 {
     let mut size: u64 = 0;
     let mut shares: u64 = 0;
-    let mut i: usize = 0;
-    while i < marks.len() {
-        if marks[i] != 0 {
+    for (mark, share) in marks.iter().zip(g) {
+        if *mark != 0 {
             size += 1;
-            shares += g[i] as u64;
+            shares += u64::from(*share);
         }
-        i += 1;
     }
     Tally { size, shares }
 }
@@ -36,15 +34,10 @@ pub fn first(marks: &[u8], w: &[u64]) -> u64
     requires { length marks.now ≡ length w.now }
     ensures { result ≡ sampled_base marks.now w.now }
 {
-    let mut i: usize = 0;
-    while i < marks.len() {
-        let mark = marks[i];
-        if mark != 0 {
-            return w[i];
-        }
-        i += 1;
+    match marks.iter().position(|mark| *mark != 0) {
+        Some(i) => w[i],
+        None => 0,
     }
-    0
 }
 
 // Whether some sampled unit's W is not x.
@@ -52,15 +45,5 @@ pub fn any_other(marks: &[u8], w: &[u64], x: u64) -> bool
     requires { length marks.now ≡ length w.now }
     ensures { result ≡ any_of (λ y. not (eqb y x)) (of_sampled marks.now w.now) }
 {
-    let mut i: usize = 0;
-    while i < marks.len() {
-        let sampled = marks[i];
-        if sampled != 0 {
-            if w[i] != x {
-                return true;
-            }
-        }
-        i += 1;
-    }
-    false
+    marks.iter().zip(w).any(|(mark, y)| *mark != 0 && *y != x)
 }

@@ -65,9 +65,9 @@ fn unit(mark: u8, w: u64, g: u32, inner: u64, t: u64) -> u64
     ensures { result ≡ shared_unit inner t mark w g }
 {
     if mark != 0 {
-        return inner * (g as u64) / t;
+        return inner * u64::from(g) / t;
     }
-    w * (g as u64) / SHARE_SCALE
+    w * u64::from(g) / SHARE_SCALE
 }
 
 // The u of all units, from the inner floor and T.
@@ -75,11 +75,8 @@ fn lay(marks: &[u8], w: &[u64], g: &[u32], inner: u64, t: u64, u: &mut [u64])
     requires { Layable inner t marks.now w.now g.now u.old }
     ensures { u.new ≡ each_unit (shared_unit inner t) marks.now w.now g.now }
 {
-    let mut i: usize = 0;
-    while i < marks.len() {
-        let x = unit(marks[i], w[i], g[i], inner, t);
-        u[i] = x;
-        i += 1;
+    for (i, mark) in marks.iter().enumerate() {
+        u[i] = unit(*mark, w[i], g[i], inner, t);
     }
 }
 

@@ -5,7 +5,7 @@ use Rattle.rules.specs.Limits.{most_short}
 use Rattle.rules.specs.Lists.{sum}
 use Rattle.rules.specs.Panel.{sampled_size, sampled_shares}
 use Rattle.chain_sampled.proofs.Turns.{left}
-use Prim.Native.Nat.{ℕ, ◌+◌, ◌*◌, ◌-◌, ◌≤◌}
+use Prim.Native.Nat.{ℕ, ◌+◌, ◌*◌, ◌≤◌}
 use lib.ListN.{length}
 use Rattle.chain_sampled.proofs.count.Given as goal
 
@@ -16,8 +16,5 @@ pub record Counted (ms gs : List ℕ) (i size shares : ℕ) : Type 0 where
   pub sizes : size + length (left i ms gs) ≡ sampled_size ms gs
   pub totals : shares + sum (left i ms gs) ≡ sampled_shares ms gs
 
-abbrev pub invariant-loop-i : goal.invariant-loop-i
-invariant-loop-i l = (l.i ≤ length l.marks) × Counted l.marks l.g l.i l.size l.shares
-
-abbrev pub decreases-loop-i : goal.decreases-loop-i
-decreases-loop-i l = length l.marks - l.i
+abbrev pub invariant-loop-mark : goal.invariant-loop-mark
+invariant-loop-mark l = Counted l.marks l.g (length l.yielded) l.size l.shares

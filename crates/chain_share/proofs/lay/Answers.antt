@@ -1,12 +1,12 @@
 -- `lay`: the places before i hold the u, the others are as they came.
 use native.Mathlib.Omega.{arith}
-use mathlib.Core.Path.{◌≡◌, refl, sym, ◌∙◌}
+use mathlib.Core.Path.{◌≡◌, sym, ◌∙◌}
 use mathlib.Core.List.{List, append-nil}
 use Prim.Native.Nat.{ℕ, ◌≤◌}
 use lib.ListN.{length}
 use Rattle.rules.specs.Refusals.{written}
 use Rattle.rules.specs.Panel.{shared_unit}
-use Rattle.rules.proofs.Lists.{drop_end, written_to, laid_length, laid_next, laid_end}
+use Rattle.rules.proofs.Lists.{drop_end, laid_next, laid_end}
 use Rattle.rules.proofs.Panels.{length_each, each_at}
 use Rattle.chain_share.specs.Outsideable.{Layable}
 use Rattle.chain_share.proofs.lay.Invariants.{news}
@@ -19,39 +19,17 @@ module _ (inner t : ℕ) (ms ws gs us : List ℕ) (l : Layable inner t ms ws gs 
   room : length ms ≤ length us
   room = omega (arith, l.marked.marks, l.room)
 
-  kept : (i : ℕ) (now : List ℕ) → i ≤ length ms → now ≡ written_to i (news inner t ms ws gs) us → length now ≡ length us
-  kept i now h e = laid_length i _ _ _ _ e long h room
-
   -- no place of u is left over
   whole : written 0 (news inner t ms ws gs) us ≡ news inner t ms ws gs
   whole =
       let none : length us ≤ length (news inner t ms ws gs) = omega (arith, long, l.marked.marks, l.room) in
       simp (drop_end us (length (news inner t ms ws gs)) none, append-nil)
 
-pub loop-i-init : goal.loop-i-init
-loop-i-init c = (omega arith, refl)
-
-pub bounds-w-i : goal.bounds-w-i
-bounds-w-i c = omega (arith, c.loop-i-test.true, c.requires.marked.marks)
-
-pub bounds-g-i : goal.bounds-g-i
-bounds-g-i c = let m = c.requires.marked in omega (arith, c.loop-i-test.true, m.marks, m.shares)
-
-pub unit-x-requires : goal.unit-x-requires
-unit-x-requires c = let p = c.requires in
-    (p.take_all c.loop-i.i, p.sampled c.loop-i.i, p.divides c.loop-i.i c.loop-i-test.true)
-
-pub bounds-u-i : goal.bounds-u-i
-bounds-u-i c = let p = c.requires in omega (arith, c.loop-i-test.true, kept _ _ _ _ _ _ p c.loop-i.i _ c.loop-i.invariant.0 c.loop-i.invariant.1, room _ _ _ _ _ _ p)
-
 pub loop-i-preserved : goal.loop-i-preserved
 loop-i-preserved c = let p = c.requires in
     let a = c.args in
     let at = each_at (shared_unit a.inner a.t) a.marks.now a.w.now a.g.now c.loop-i.i c.loop-i-test.true p.marked.marks p.marked.shares in
-    (omega arith, laid_next c.loop-i.i _ _ _ _ _ c.loop-i.invariant.1 (long _ _ _ _ _ _ p) c.loop-i-test.true (room _ _ _ _ _ _ p) (c.unit-x.ensures ∙ sym at))
-
-pub shape_of-u : goal.shape_of-u
-shape_of-u c = kept _ _ _ _ _ _ c.requires c.loop-i.i _ c.loop-i.invariant.0 c.loop-i.invariant.1
+    laid_next c.loop-i.i _ _ _ _ _ c.loop-i.invariant (long _ _ _ _ _ _ p) c.loop-i-test.true (room _ _ _ _ _ _ p) (c.unit.ensures ∙ sym at)
 
 pub returns : goal.returns
-returns c = laid_end c.loop-i.i _ _ _ _ c.loop-i.invariant.1 (long _ _ _ _ _ _ c.requires) c.loop-i.invariant.0 c.loop-i-test.false ∙ whole _ _ _ _ _ _ c.requires
+returns c = laid_end c.loop-i.i _ _ _ _ c.loop-i.invariant (long _ _ _ _ _ _ c.requires) (omega arith) (omega arith) ∙ whole _ _ _ _ _ _ c.requires
