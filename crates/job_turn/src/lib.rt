@@ -9,6 +9,7 @@ use job_state::Job;
 use job_text::{TEXT_ROOM, continues, lay};
 
 // The job after a turn, the bytes of its text, and whether there is a next turn.
+// No Option: `more` stands beside values that are there either way, since the last turn too leaves a job and a text.
 #[derive(Drop)]
 pub struct Turned {
     pub job: Job,
