@@ -14,7 +14,8 @@ use Rattle.rules.specs.Stream.{Column, Front, reading_refusal, reading}
 use Rattle.rules.specs.Writing.{Row, Lists, lists, command_bytes, stream_of, rows_of, rows_in, stream_in, write_refusal, write_answer, write_bytes, Whole, whole_by, whole_of, row_of, command_in, columns, rows_read, too_short, written_over, read_all_refusal, read_all_answer, read_all_lists}
 use Rattle.rules.proofs.Tests.{or_false}
 use Rattle.rules.proofs.Refusals.{given_tells}
-use Rattle.stream_write.proofs.Rows.{accepted, blank, no_stream, one_more_lem, rows_kinds, rows_length}
+use Rattle.stream_write.specs.Answer.{blank}
+use Rattle.stream_write.proofs.Rows.{accepted, no_stream, one_more_lem, rows_kinds, rows_length}
 use Rattle.stream_all.proofs.Readings.{by_reading}
 use Rattle.stream_copy.specs.Copied.{InWidths, cleared}
 use Rattle.stream_copy.proofs.Front.{Fitting, reads_command, rest_behind, row_again}
