@@ -22,10 +22,11 @@ def shouted(name):
 
 
 def enum_of_the_code():
-    """Number -> variant, from the function that gives the numbers."""
-    text = next(text for text in (path.read_text() for path in TOP.glob("crates/*/src/lib.rt")) if "pub enum Refusal {" in text)
-    variants = re.search(r"pub enum Refusal \{(.*?)\}", text, re.DOTALL)[1].replace(",", " ").split()
-    numbers = {int(number): name for name, number in re.findall(r"Refusal::(\w+) => (\d+),", text)}
+    """The variants of the code's enum, and the variant of each number."""
+    text = next(path.read_text() for path in TOP.glob("crates/*/src/*.rt") if "enum Refusal {" in path.read_text())
+    body = text.split("enum Refusal {")[1].split("}")[0]
+    variants = re.findall(r"^ +(\w+)", body, re.MULTILINE)
+    numbers = {int(number): name for name, number in re.findall(r"(\w+) = (\d+),", body)}
     return variants, numbers
 
 
