@@ -31,7 +31,8 @@ pub fn tell(keyed: &Keyed, z: usize) -> Told
 }
 
 impl Told {
-    // Unit i is sampled.
+    // Unit i is sampled. Inlined, so that a pass over many units asks once which of the two tells.
+    #[inline(always)]
     pub fn is_sampled(&self, keyed: &Keyed, i: usize) -> bool
         requires { over Tells keyed.now self.now × (i < size_of keyed.now) }
         ensures { result ≡ over sampled_of keyed.now i }

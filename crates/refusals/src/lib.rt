@@ -44,7 +44,7 @@ pub enum Refusal {
 }
 
 impl Refusal {
-    // The number that document 01 gives the case.
+    // The number that document 01 gives the case. A From for u8 would say no more, and a caller would write it no plainer.
     pub fn number(self) -> u8
         ensures { result ≡ number_of self }
     {
