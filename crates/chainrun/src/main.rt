@@ -73,8 +73,7 @@ fn run_stream(rt: &HostRuntime, stream: &[u8]) -> io::Result<()> {
     let mut held = job_state::empty();
     loop {
         let turned = job_turn::turn(stream.len(), unread, held, &mut text);
-        let count = turned.count;
-        rt.write_all(&text[..count])?;
+        rt.write_all(&text[..turned.count])?;
         if !turned.more {
             return Ok(());
         }

@@ -1,6 +1,6 @@
 -- A draw on the code's job: its two buffers have a place for each unit of a panel, so that 6 does not apply, and exactly z places of each are
 -- written.
-use Prim.Native.Nat.{ℕ, zero, suc, min}
+use Prim.Native.Nat.{ℕ, zero, suc}
 use native.Mathlib.Omega.{arith}
 use mathlib.Core.Path.{◌≡◌, refl, sym, ap, ◌∙◌}
 use mathlib.Core.List.{List}
@@ -10,9 +10,8 @@ use borrow.Author.Tests.{le-ltb}
 use Rattle.std.specs.Prelude.{Result, Ok, Err}
 use Rattle.refusals.specs.declared.Refusal.{Refusal}
 use Rattle.refusals.specs.Number.{number_of}
-use Rattle.rules.specs.Limits.{most_held}
 use Rattle.rules.specs.Refusals.{judged, written}
-use Rattle.rules.specs.TakeAll.{Frame, Group, frame, take_all_group}
+use Rattle.rules.specs.TakeAll.{Frame, Group, take_all_group}
 use Rattle.rules.specs.Draw.{Method, Drawn, panel_numbers, panel_weights, frame_refusal, draw_refusal, draw_answer, draw_numbers_by, draw_weights_by, draw_numbers, draw_weights}
 use Rattle.rules.specs.Stream.{Command}
 use Rattle.rules.specs.Job.{on_draw, step}
@@ -27,7 +26,6 @@ use Rattle.job_state.specs.declared.Stepped.{Stepped}
 use Rattle.job_state.specs.declared.Saying.TheVariants.{Panel}
 use Rattle.job_state.specs.State.{job_of}
 use Rattle.job_state.specs.Steps.{each, panel_held, job_next, plain_step, Steps}
-use Rattle.job_state.proofs.FirstPlaces.{Sized, lent}
 use Rattle.job_state.proofs.Jobs.{panel_held_lem}
 use Rattle.job_state.proofs.Steps.{refused_step, accepted_step}
 
@@ -46,23 +44,12 @@ room f z start = go (frame_refusal f z start) refl
 front : (news buffer : List ℕ) (z : ℕ) → length news ≡ z → take z (written 0 news buffer) ≡ news
 front news buffer z e = take_at news (drop (length news) buffer) z e
 
-module _ (j : Job) (z start : ℕ) (places : Sized j) (units : ℕ) (e : units ≡ min j.units most_held) where
+module _ (j : Job) (z start : ℕ) (part : Frame) (same_frame : part ≡ (job_of j).units) where
   abbrev f : Frame
   f = (job_of j).units
 
   abbrev g : Group
   g = take_all_group f.turnovers z
-
-  -- the parts that are lent are the frame that the job stands for
-  abbrev part : Frame
-  part = frame (take units j.numbers) (take units j.turnovers) (take units j.randoms)
-
-  same_frame : part ≡ f
-  same_frame =
-      let n = lent j.numbers units j.units most_held places.numbers e in
-      let t = lent j.turnovers units j.units most_held places.turnovers e in
-      let r = lent j.randoms units j.units most_held places.randoms e in
-      cc
 
   module _ (told : Result Sampled Refusal) (is : answer_from told ≡ draw_answer part z start (each 0) (each 0)) where
     abbrev answer : Drawn

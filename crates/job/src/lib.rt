@@ -6,33 +6,23 @@ ghost use Rattle.stream_read.specs.Value.{command_from};
 ghost use Rattle.job_state.specs.Steps.{Steps};
 
 use chain::Kind;
-use frame::Frame;
 use job_state::{Job, Saying, Stepped, said};
-use limits::{MOST_HELD, MOST_PANEL};
+use limits::MOST_PANEL;
 use stream_read::Command;
 
 // 2: a panel of the frame so far.
 pub fn on_draw(job: Job, size: u8, start: u32) -> Stepped
     ensures { Steps job (rules.Command.draw size start) result }
 {
-    let units = job_state::within(job.units, MOST_HELD);
-    let z = size as usize;
-    let numbers = job.numbers;
-    let turnovers = job.turnovers;
-    let randoms = job.randoms;
-    let mut panel = [0u32; MOST_PANEL];
-    let mut weights = [0u64; MOST_PANEL];
-    let frame = Frame {
-        numbers: &numbers[..units],
-        turnovers: &turnovers[..units],
-        randoms: &randoms[..units],
-    };
-    match draw::draw(&frame, z, start, &mut panel, &mut weights) {
+    let z = usize::from(size);
+    let mut numbers = [0; MOST_PANEL];
+    let mut weights = [0; MOST_PANEL];
+    match draw::draw(&job.frame.lent(), z, start, &mut numbers, &mut weights) {
         Err(why) => said(job, Err(why)),
         Ok(_) => Stepped {
             job: job_state::drawn(job, z, weights),
             says: Ok(Saying::Panel),
-            numbers: panel,
+            numbers,
         },
     }
 }

@@ -2,53 +2,56 @@
 // Whoever uses the value judges it.
 #![tactic(auto)]
 
+ghost use Rattle.std.specs.Prelude.{◌≡◌, cond, ltb, min, Option, Some, None};
+ghost use Rattle.rules.specs.Limits.{most_panel};
 ghost use Rattle.rules.specs.Stream.{Command};
 ghost use Rattle.job_state.specs.Steps.{Steps};
 
-use job_state::{Job, Saying, Stepped, said, within};
-use limits::{MOST_HELD, MOST_PANEL};
+use job_state::{HeldPanel, Job, Saying, Stepped, said};
+use limits::MOST_HELD;
 use refusals::Refusal;
 
 // 1: a unit joins the frame.
-pub fn on_unit(job: Job, number: u32, turnover: u64, random: u32) -> Stepped
+pub fn on_unit(mut job: Job, number: u32, turnover: u64, random: u32) -> Stepped
     ensures { Steps job (Command.unit number turnover random) result }
 {
-    let at = job.units;
+    let at = job.frame.units;
     if MOST_HELD <= at {
         return said(job, Err(Refusal::FrameFull));
     }
-    let mut next = job;
-    next.numbers[at] = number;
-    next.turnovers[at] = turnover;
-    next.randoms[at] = random;
-    next.units = at + 1;
-    said(next, Ok(Saying::Nothing))
+    job.frame.numbers[at] = number;
+    job.frame.turnovers[at] = turnover;
+    job.frame.randoms[at] = random;
+    job.frame.units = at + 1;
+    said(job, Ok(Saying::Nothing))
+}
+
+// The place of a unit of the panel; none is not below the panel's size.
+fn place_in(panel: &HeldPanel, place: u8) -> Option<usize>
+    ensures { result ≡ cond (ltb place (min panel.now.size most_panel)) (Some place) None }
+{
+    let at = usize::from(place);
+    if at < panel.units() { Some(at) } else { None }
 }
 
 // 3: a share of a unit of the panel.
-pub fn on_share(job: Job, place: u8, share: u16) -> Stepped
+pub fn on_share(mut job: Job, place: u8, share: u16) -> Stepped
     ensures { Steps job (Command.share place share) result }
 {
-    let at = place as usize;
-    let size = within(job.size, MOST_PANEL);
-    if size <= at {
+    let Some(at) = place_in(&job.panel, place) else {
         return said(job, Err(Refusal::Place));
-    }
-    let mut next = job;
-    next.shares[at] = share as u32;
-    said(next, Ok(Saying::Nothing))
+    };
+    job.panel.shares[at] = u32::from(share);
+    said(job, Ok(Saying::Nothing))
 }
 
 // 4: a relative of a unit of the panel.
-pub fn on_relative(job: Job, place: u8, relative: u32) -> Stepped
+pub fn on_relative(mut job: Job, place: u8, relative: u32) -> Stepped
     ensures { Steps job (Command.relative place relative) result }
 {
-    let at = place as usize;
-    let units = within(job.size, MOST_PANEL);
-    if units <= at {
+    let Some(unit) = place_in(&job.panel, place) else {
         return said(job, Err(Refusal::Place));
-    }
-    let mut next = job;
-    next.pending[at] = relative;
-    said(next, Ok(Saying::Nothing))
+    };
+    job.panel.pending[unit] = relative;
+    said(job, Ok(Saying::Nothing))
 }

@@ -40,9 +40,8 @@ fn pass(stream: &[u8], out: &mut [u8]) -> usize
     let mut at: usize = 0;
     loop {
         let turned = job_turn::turn(stream.len(), unread, held, &mut text);
-        let count = turned.count;
-        lay(&text, count, out, at);
-        at += count;
+        lay(&text, turned.count, out, at);
+        at += turned.count;
         if !turned.more {
             return at;
         }
@@ -55,8 +54,7 @@ fn pass(stream: &[u8], out: &mut [u8]) -> usize
 pub fn count(stream: &[u8]) -> usize
     ensures { result ≡ length (output stream.now) }
 {
-    let mut nothing = [0u8; 1];
-    pass(stream, &mut nothing[..0])
+    pass(stream, &mut [])
 }
 
 // The whole text of a stream at the front of a lent buffer.

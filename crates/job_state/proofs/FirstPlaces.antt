@@ -15,12 +15,12 @@ take_min (x ∷ l) (suc count) = rw suc-min-suc (ap (λ (m : List ℕ). x ∷ m)
 
 -- each array of a job has a place for each unit that it is to hold
 pub record Sized (j : Job) : Type 0 where
-  pub numbers : length j.numbers ≡ most_held
-  pub turnovers : length j.turnovers ≡ most_held
-  pub randoms : length j.randoms ≡ most_held
-  pub panel : length j.panel ≡ most_panel
-  pub shares : length j.shares ≡ most_panel
-  pub pending : length j.pending ≡ most_panel
+  pub numbers : length j.frame.numbers ≡ most_held
+  pub turnovers : length j.frame.turnovers ≡ most_held
+  pub randoms : length j.frame.randoms ≡ most_held
+  pub weights : length j.panel.weights ≡ most_panel
+  pub shares : length j.panel.shares ≡ most_panel
+  pub pending : length j.panel.pending ≡ most_panel
 
 -- how many places a count names
 pub named : (l : List ℕ) (count places : ℕ) → length l ≡ places → length (take count l) ≡ min count places

@@ -21,18 +21,18 @@ joined : (l : List ℕ) (at x : ℕ) → at < length l → take (at + 1) (set l 
 joined l at x h = rw add-one (take-suc-set l at x h)
 
 module _ (j : Job) where
-  pub unit_held_lem : (n t r : ℕ) → j.units < length j.numbers → j.units < length j.turnovers → j.units < length j.randoms
+  pub unit_held_lem : (n t r : ℕ) → j.frame.units < length j.frame.numbers → j.frame.units < length j.frame.turnovers → j.frame.units < length j.frame.randoms
       → job_of (unit_held j n t r) ≡ with_unit (job_of j) n t r
   unfolding with_unit
-  unit_held_lem n t r hn ht hr = cc (joined j.numbers j.units n hn, joined j.turnovers j.units t ht, joined j.randoms j.units r hr)
+  unit_held_lem n t r hn ht hr = cc (joined j.frame.numbers j.frame.units n hn, joined j.frame.turnovers j.frame.units t ht, joined j.frame.randoms j.frame.units r hr)
 
-  pub share_held_lem : (place g : ℕ) → place < j.size → job_of (share_held j place g) ≡ with_share (job_of j) place g
+  pub share_held_lem : (place g : ℕ) → place < j.panel.size → job_of (share_held j place g) ≡ with_share (job_of j) place g
   unfolding with_share
-  share_held_lem place g h = cc (take-set-lt j.size j.shares place g h)
+  share_held_lem place g h = cc (take-set-lt j.panel.size j.panel.shares place g h)
 
-  pub relative_held_lem : (place p : ℕ) → place < j.size → job_of (relative_held j place p) ≡ with_relative (job_of j) place p
+  pub relative_held_lem : (place p : ℕ) → place < j.panel.size → job_of (relative_held j place p) ≡ with_relative (job_of j) place p
   unfolding with_relative
-  relative_held_lem place p h = cc (take-set-lt j.size j.pending place p h)
+  relative_held_lem place p h = cc (take-set-lt j.panel.size j.panel.pending place p h)
 
   pub panel_held_lem : (z : ℕ) (weights : List ℕ) → length weights ≡ z → z ≤ most_panel
       → job_of (panel_held j z (written 0 weights (each 0))) ≡ with_panel (job_of j) z weights
@@ -42,9 +42,9 @@ module _ (j : Job) where
       λ x. filled_front (each x) z most_panel x refl ∙ ap (λ (n : ℕ). replicate n x) (min-eq_left h) in
       cc (take_at weights (drop (length weights) (each 0)) z l, filled share_scale, filled 0)
 
-  pub chain_held_lem : (r : rules-chain.Chain) → length j.panel ≡ most_panel → job_of (chain_held j (chain_from r)) ≡ with_chain (job_of j) r
+  pub chain_held_lem : (r : rules-chain.Chain) → length j.panel.weights ≡ most_panel → job_of (chain_held j (chain_from r)) ≡ with_chain (job_of j) r
   unfolding with_chain
   chain_held_lem r h =
-      let places : take j.size (each 0) ≡ replicate (length (take j.size j.panel)) 0 =
-      filled_front (each 0) j.size most_panel 0 refl ∙ ap (λ (n : ℕ). replicate n 0) (sym (named j.panel j.size most_panel h)) in
+      let places : take j.panel.size (each 0) ≡ replicate (length (job_of j).panel) 0 =
+      filled_front (each 0) j.panel.size most_panel 0 refl ∙ ap (λ (n : ℕ). replicate n 0) (sym (named j.panel.weights j.panel.size most_panel h)) in
       cc

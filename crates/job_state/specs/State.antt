@@ -1,25 +1,45 @@
 -- Document 01, "Job stream": what the code's job and its steps are in the definitions of `rules`.
-use Rattle.std.specs.Prelude.{ℕ, cond, List, take, Result, Ok, Err}
+use Rattle.std.specs.Prelude.{ℕ, ◌≡◌, List, take, Option, Some, None, Result, Ok, Err}
 use Rattle.refusals.specs.declared.Refusal.{Refusal}
 use Rattle.refusals.specs.Number.{number_of}
 use Rattle.rules.specs.Refusals.{Judged}
-use Rattle.rules.specs.TakeAll.{frame}
+use Rattle.rules.specs.TakeAll.{Frame, frame}
 use Rattle.rules.specs.Job as rules
+use Rattle.chain.specs.declared.Chain.{Chain}
+use Rattle.chain.specs.declared.Kind.TheVariants.{Quarter, Close}
 use Rattle.chain.specs.Record.{record_of}
+use Rattle.chain_open_input.specs.declared.Lists.{Lists}
+use Rattle.job_state.specs.declared.HeldFrame.{HeldFrame}
+use Rattle.job_state.specs.declared.HeldPanel.{HeldPanel}
 use Rattle.job_state.specs.declared.Job.{Job}
 use Rattle.job_state.specs.declared.Stepped.{Stepped}
 use Rattle.job_state.specs.declared.Saying.{Saying}
-use Rattle.job_state.specs.declared.Saying.TheVariants.{Nothing, Panel, Quarter, Close}
+use Rattle.job_state.specs.declared.Saying.TheVariants.{Nothing, Panel, Figure}
 
--- The code's job. A number of units or a panel size beyond the places of the arrays is read as all of them.
+-- the units of the frame so far. A number beyond the places of the arrays is read as all of them, as a panel's size is.
+abbrev pub units_of : HeldFrame → Frame
+units_of f = frame (take f.units f.numbers) (take f.units f.turnovers) (take f.units f.randoms)
+
+-- the three lists of an opening are those of the panel
+pub record Parts (p : HeldPanel) (l : Lists) : Type 0 where
+  pub weights : l.weights.now ≡ take p.size p.weights
+  pub shares : l.shares.now ≡ take p.size p.shares
+  pub relatives : l.relatives.now ≡ take p.size p.pending
+
+-- the open chain, if there is one
+abbrev pub chain_of : Option Chain → rules.OpenChain
+chain_of None = rules.OpenChain.none
+chain_of (Some c) = rules.OpenChain.current (record_of c)
+
+-- the code's job
 abbrev pub job_of : Job → rules.Job
 job_of j =
     record {
-      units = frame (take j.units j.numbers) (take j.units j.turnovers) (take j.units j.randoms);
-      panel = take j.size j.panel;
-      shares = take j.size j.shares;
-      pending = take j.size j.pending;
-      chain = cond j.is_open (rules.OpenChain.current (record_of j.chain)) rules.OpenChain.none;
+      units = units_of j.frame;
+      panel = take j.panel.size j.panel.weights;
+      shares = take j.panel.size j.panel.shares;
+      pending = take j.panel.size j.panel.pending;
+      chain = chain_of j.chain;
     }
 
 -- what a command says, with the unit numbers and the W of the panel
@@ -27,12 +47,12 @@ abbrev pub saying_by : Result Saying Refusal → List ℕ → List ℕ → Judge
 saying_by (Err why) numbers weights = Judged.refused (number_of why)
 saying_by (Ok Nothing) numbers weights = Judged.given rules.Saying.nothing
 saying_by (Ok Panel) numbers weights = Judged.given (rules.Saying.panel_drawn numbers weights)
-saying_by (Ok (Quarter f)) numbers weights = Judged.given (rules.Saying.quarter_figure f)
-saying_by (Ok (Close f)) numbers weights = Judged.given (rules.Saying.close_figure f)
+saying_by (Ok (Figure Quarter f)) numbers weights = Judged.given (rules.Saying.quarter_figure f)
+saying_by (Ok (Figure Close f)) numbers weights = Judged.given (rules.Saying.close_figure f)
 
 -- what the code's step says: a panel is that of the job it leaves
 abbrev pub saying_from : Stepped → Judged rules.Saying
-saying_from s = saying_by s.says (take s.job.size s.numbers) (take s.job.size s.job.panel)
+saying_from s = saying_by s.says (take s.job.panel.size s.numbers) (job_of s.job).panel
 
 -- the code's step: the next job and what is said
 abbrev pub step_from : Stepped → rules.Step

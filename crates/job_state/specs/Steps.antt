@@ -1,6 +1,6 @@
 -- Document 01, "Job stream", every place: what a command leaves of the code's job and hands back beside it, whole. `job_of` (State.antt) reads the
--- first places of the arrays alone, and the chain only where it is open; here each place and each field is given from what came in.
-use Rattle.std.specs.Prelude.{ℕ, ◌+◌, true, false, ◌≡◌, List, set, replicate, Result}
+-- first places of the arrays alone; here each place and each field is given from what came in.
+use Rattle.std.specs.Prelude.{ℕ, ◌+◌, ◌≡◌, List, set, replicate, Option, Some, None, Result}
 use Rattle.refusals.specs.declared.Refusal.{Refusal}
 use Rattle.rules.specs.Limits.{most_held, most_panel, share_scale}
 use Rattle.rules.specs.Refusals.{Judged, written}
@@ -9,7 +9,6 @@ use Rattle.rules.specs.Draw.{Method, panel_weights}
 use Rattle.rules.specs.Chain.{Call, shared, open_record, accepted}
 use Rattle.rules.specs.Stream.{Command}
 use Rattle.rules.specs.Job as rules
-use Rattle.chain_record.specs.Record.{empty_record}
 use Rattle.chain.specs.declared.Chain.{Chain}
 use Rattle.chain.specs.Record.{record_of, chain_from}
 use Rattle.job_state.specs.declared.Job.{Job}
@@ -26,96 +25,58 @@ each x = replicate most_panel x
 abbrev pub job_at_start : Job
 job_at_start =
     record {
-      numbers = replicate most_held 0;
-      turnovers = replicate most_held 0;
-      randoms = replicate most_held 0;
-      units = 0;
-      panel = each 0;
-      shares = each 0;
-      pending = each 0;
-      size = 0;
-      chain = chain_from empty_record;
-      is_open = false;
+      frame = record { numbers = replicate most_held 0; turnovers = replicate most_held 0; randoms = replicate most_held 0; units = 0 };
+      panel = record { weights = each 0; shares = each 0; pending = each 0; size = 0 };
+      chain = None;
     }
 
 -- a unit in the place behind those that are held
 abbrev pub unit_held : Job → ℕ → ℕ → ℕ → Job
 unit_held j n t r =
+    let f = j.frame in
     record {
-      numbers = set j.numbers j.units n;
-      turnovers = set j.turnovers j.units t;
-      randoms = set j.randoms j.units r;
-      units = j.units + 1;
+      frame = record { numbers = set f.numbers f.units n; turnovers = set f.turnovers f.units t; randoms = set f.randoms f.units r; units = f.units + 1 };
       panel = j.panel;
-      shares = j.shares;
-      pending = j.pending;
-      size = j.size;
       chain = j.chain;
-      is_open = j.is_open;
     }
 
--- a panel of z units with these W, whole shares and no relatives; a chain that was open stays, and is no longer read
+-- a panel of z units with these W, whole shares and no relatives; no chain
 abbrev pub panel_held : Job → ℕ → List ℕ → Job
 panel_held j z weights =
     record {
-      numbers = j.numbers;
-      turnovers = j.turnovers;
-      randoms = j.randoms;
-      units = j.units;
-      panel = weights;
-      shares = each share_scale;
-      pending = each 0;
-      size = z;
-      chain = j.chain;
-      is_open = false;
+      frame = j.frame;
+      panel = record { weights = weights; shares = each share_scale; pending = each 0; size = z };
+      chain = None;
     }
 
 -- a share in its place
 abbrev pub share_held : Job → ℕ → ℕ → Job
 share_held j place g =
+    let p = j.panel in
     record {
-      numbers = j.numbers;
-      turnovers = j.turnovers;
-      randoms = j.randoms;
-      units = j.units;
-      panel = j.panel;
-      shares = set j.shares place g;
-      pending = j.pending;
-      size = j.size;
+      frame = j.frame;
+      panel = record { weights = p.weights; shares = set p.shares place g; pending = p.pending; size = p.size };
       chain = j.chain;
-      is_open = j.is_open;
     }
 
 -- a relative in its place
 abbrev pub relative_held : Job → ℕ → ℕ → Job
-relative_held j place p =
+relative_held j place a =
+    let p = j.panel in
     record {
-      numbers = j.numbers;
-      turnovers = j.turnovers;
-      randoms = j.randoms;
-      units = j.units;
-      panel = j.panel;
-      shares = j.shares;
-      pending = set j.pending place p;
-      size = j.size;
+      frame = j.frame;
+      panel = record { weights = p.weights; shares = p.shares; pending = set p.pending place a; size = p.size };
       chain = j.chain;
-      is_open = j.is_open;
     }
 
 -- an open chain, and no relative in any place
 abbrev pub chain_held : Job → Chain → Job
 chain_held j c =
+    let p = j.panel in
     record {
-      numbers = j.numbers;
-      turnovers = j.turnovers;
-      randoms = j.randoms;
-      units = j.units;
-      panel = j.panel;
-      shares = j.shares;
-      pending = each 0;
-      size = j.size;
-      chain = c;
-      is_open = true;
+      frame = j.frame;
+      panel = record { weights = p.weights; shares = p.shares; pending = each 0; size = p.size };
+      chain = Some c;
     }
 
 -- after a draw: the W of its panel in the first places, and 0 in the others
@@ -128,8 +89,10 @@ panel_drawn j z start =
 abbrev pub chain_opened : Job → ℕ → Job
 chain_opened j start = chain_held j (chain_from (open_record (shared (job_of j).panel (job_of j).shares) (job_of j).pending start))
 
-abbrev pub chain_called : Job → Call → Job
-chain_called j call = chain_held j (chain_from (accepted (record_of j.chain) call))
+-- a call is accepted with a chain alone
+abbrev pub chain_called : Job → Option Chain → Call → Job
+chain_called j None call = j
+chain_called j (Some c) call = chain_held j (chain_from (accepted (record_of c) call))
 
 -- by each command that is accepted
 abbrev pub job_next : Job → Command → Job
@@ -138,8 +101,8 @@ job_next j (Command.draw z start) = panel_drawn j z start
 job_next j (Command.share place g) = share_held j place g
 job_next j (Command.relative place p) = relative_held j place p
 job_next j (Command.opens start) = chain_opened j start
-job_next j Command.quarter = chain_called j (Call.quarter (job_of j).pending)
-job_next j Command.close = chain_called j (Call.close (job_of j).pending)
+job_next j Command.quarter = chain_called j j.chain (Call.quarter (job_of j).pending)
+job_next j Command.close = chain_called j j.chain (Call.close (job_of j).pending)
 
 -- ---- the step
 -- a step that draws no panel: its unit numbers are 0

@@ -3,27 +3,77 @@
 #![tactic(auto)]
 
 ghost use Rattle.std.specs.Prelude.{◌≡◌, min};
+ghost use Rattle.rules.specs.Limits.{most_panel};
 ghost use Rattle.rules.specs.Job.{empty_job};
-ghost use Rattle.job_state.specs.State.{job_of};
+ghost use Rattle.frame.specs.Frame.{frame_of};
+ghost use Rattle.job_state.specs.State.{units_of, Parts, job_of};
 ghost use Rattle.job_state.specs.Steps.{job_at_start, panel_held, chain_held, plain_step};
 
-use chain::Chain;
+use chain::{Chain, Kind};
+use chain_open_input::Lists;
+use frame::Frame;
 use limits::{MOST_HELD, MOST_PANEL, SHARE_SCALE};
 use refusals::Refusal;
 
-// The frame so far, the W of the drawn panel with its shares and pending relatives, and the chain if it is open.
+// The frame so far. Its units are the first places of the arrays: there is no heap for lists that grow.
 #[derive(Clone, Copy)]
-pub struct Job {
+pub struct HeldFrame {
     pub numbers: [u32; MOST_HELD],
     pub turnovers: [u64; MOST_HELD],
     pub randoms: [u32; MOST_HELD],
     pub units: usize,
-    pub panel: [u64; MOST_PANEL],
+}
+
+impl HeldFrame {
+    // The frame as a draw is lent it.
+    pub fn lent(&self) -> Frame
+        ensures { frame_of result ≡ units_of self.now }
+    {
+        let units = self.units.min(MOST_HELD);
+        Frame {
+            numbers: &self.numbers[..units],
+            turnovers: &self.turnovers[..units],
+            randoms: &self.randoms[..units],
+        }
+    }
+}
+
+// The W of the drawn panel with its shares and pending relatives, in the first places of the arrays as those of a frame.
+#[derive(Clone, Copy)]
+pub struct HeldPanel {
+    pub weights: [u64; MOST_PANEL],
     pub shares: [u32; MOST_PANEL],
     pub pending: [u32; MOST_PANEL],
     pub size: usize,
-    pub chain: Chain,
-    pub is_open: bool,
+}
+
+impl HeldPanel {
+    // How many units there are.
+    pub fn units(&self) -> usize
+        ensures { result ≡ min self.now.size most_panel }
+    {
+        self.size.min(MOST_PANEL)
+    }
+
+    // The lists as an opening is lent them.
+    pub fn lent(&self) -> Lists
+        ensures { Parts self.now result }
+    {
+        let units = self.units();
+        Lists {
+            weights: &self.weights[..units],
+            shares: &self.shares[..units],
+            relatives: &self.pending[..units],
+        }
+    }
+}
+
+// The frame, the panel, and the chain if it is open.
+#[derive(Clone, Copy)]
+pub struct Job {
+    pub frame: HeldFrame,
+    pub panel: HeldPanel,
+    pub chain: Option<Chain>,
 }
 
 // What a command that is accepted says. The panel's unit numbers and W stand beside it, since an enum holds no array.
@@ -31,8 +81,7 @@ pub struct Job {
 pub enum Saying {
     Nothing,
     Panel,
-    Quarter(u64),
-    Close(u64),
+    Figure(Kind, u64),
 }
 
 // The job that a command leaves, what it says or the refusal, and the unit numbers of a drawn panel.
@@ -43,73 +92,57 @@ pub struct Stepped {
     pub numbers: [u32; MOST_PANEL],
 }
 
-// How many of the places of an array a count names.
-pub fn within(count: usize, places: usize) -> usize
-    ensures { result ≡ min count places }
-{
-    count.min(places)
-}
-
 // A step that draws no panel.
 pub fn said(job: Job, says: Result<Saying, Refusal>) -> Stepped
     ensures { result ≡ plain_step job says }
 {
-    let numbers = [0u32; MOST_PANEL];
     Stepped {
-        job: job,
-        says: says,
-        numbers: numbers,
+        job,
+        says,
+        numbers: [0; MOST_PANEL],
     }
 }
 
 // The job after an accepted open, quarter or close: the chain that it leaves, and no relatives.
-pub fn with_chain(job: Job, chain: Chain) -> Job
+pub fn with_chain(mut job: Job, chain: Chain) -> Job
     ensures { result ≡ chain_held job chain }
 {
-    let none = [0u32; MOST_PANEL];
-    let mut next = job;
-    next.pending = none;
-    next.chain = chain;
-    next.is_open = true;
-    next
+    job.panel.pending.fill(0);
+    job.chain = Some(chain);
+    job
 }
 
 // The job after an accepted draw: a panel with whole shares, no relatives and no chain; the frame stays.
-pub fn drawn(job: Job, size: usize, weights: [u64; MOST_PANEL]) -> Job
+pub fn drawn(mut job: Job, size: usize, weights: [u64; MOST_PANEL]) -> Job
     ensures { result ≡ panel_held job size weights }
 {
-    let whole = [SHARE_SCALE as u32; MOST_PANEL];
-    let pending = [0u32; MOST_PANEL];
-    let mut next = job;
-    next.panel = weights;
-    next.shares = whole;
-    next.pending = pending;
-    next.size = size;
-    next.is_open = false;
-    next
+    job.panel = HeldPanel {
+        weights,
+        shares: [SHARE_SCALE as u32; MOST_PANEL],
+        pending: [0; MOST_PANEL],
+        size,
+    };
+    job.chain = None;
+    job
 }
 
 // The job before the first command.
 pub fn empty() -> Job
     ensures { (result ≡ job_at_start) × (job_of result ≡ empty_job) }
 {
-    let numbers = [0u32; MOST_HELD];
-    let turnovers = [0u64; MOST_HELD];
-    let randoms = [0u32; MOST_HELD];
-    let panel = [0u64; MOST_PANEL];
-    let shares = [0u32; MOST_PANEL];
-    let pending = [0u32; MOST_PANEL];
-    let chain = Chain::empty();
     Job {
-        numbers: numbers,
-        turnovers: turnovers,
-        randoms: randoms,
-        units: 0,
-        panel: panel,
-        shares: shares,
-        pending: pending,
-        size: 0,
-        chain: chain,
-        is_open: false,
+        frame: HeldFrame {
+            numbers: [0; MOST_HELD],
+            turnovers: [0; MOST_HELD],
+            randoms: [0; MOST_HELD],
+            units: 0,
+        },
+        panel: HeldPanel {
+            weights: [0; MOST_PANEL],
+            shares: [0; MOST_PANEL],
+            pending: [0; MOST_PANEL],
+            size: 0,
+        },
+        chain: None,
     }
 }

@@ -11,7 +11,7 @@ use Rattle.job_state.specs.declared.Stepped.{Stepped}
 use Rattle.std.proofs.Common.{Result, Ok}
 use Rattle.refusals.specs.declared.Refusal.{Refusal}
 use Rattle.job_state.specs.declared.Saying.{Saying}
-use Rattle.job_state.specs.State.{saying_from, saying_by}
+use Rattle.job_state.specs.State.{job_of, saying_from, saying_by}
 
 -- what is laid where there is room is the whole text
 pub laid_all : (room : ℕ) (text want before after : List ℕ) (r : ℕ) → text ≡ want → room ≤ length before → Lays room text before after r
@@ -23,10 +23,10 @@ laid_all room text want before after r e h l =
 
 -- what follows from a step that says x
 pub says : {A : Type 0} (f : Judged rules.Saying → A) (s : Stepped) (x : Result Saying Refusal) → s.says ≡ x
-    → f (saying_by x (take s.job.size s.numbers) (take s.job.size s.job.panel)) ≡ f (saying_from s)
-says f s x e = ap (λ (y : Result Saying Refusal). f (saying_by y (take s.job.size s.numbers) (take s.job.size s.job.panel))) (sym e)
+    → f (saying_by x (take s.job.panel.size s.numbers) (job_of s.job).panel) ≡ f (saying_from s)
+says f s x e = ap (λ (y : Result Saying Refusal). f (saying_by y (take s.job.panel.size s.numbers) (job_of s.job).panel)) (sym e)
 
 -- the same of one that is accepted, by what it says
 pub says_ok : {A : Type 0} (f : Judged rules.Saying → A) (s : Stepped) (y x : Saying) → s.says ≡ Ok y → y ≡ x
-    → f (saying_by (Ok x) (take s.job.size s.numbers) (take s.job.size s.job.panel)) ≡ f (saying_from s)
+    → f (saying_by (Ok x) (take s.job.panel.size s.numbers) (job_of s.job).panel) ≡ f (saying_from s)
 says_ok f s y x e d = says f s (Ok x) (e ∙ ap Ok d)

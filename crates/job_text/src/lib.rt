@@ -6,8 +6,8 @@ ghost use Rattle.rules.specs.Refusals.{written};
 ghost use Rattle.job_state.specs.State.{saying_from};
 ghost use Rattle.job_text.specs.Text.{continues, text_at};
 
-use job_state::{Saying, Stepped, within};
-use limits::MOST_PANEL;
+use chain::Kind;
+use job_state::{Saying, Stepped};
 use text_lines::PANEL_ROOM;
 
 // Bytes of the longest text of a command: a line for each unit of a panel.
@@ -24,20 +24,15 @@ pub fn continues(stepped: Stepped) -> bool
 pub fn lay(text: &mut [u8; TEXT_ROOM], stepped: Stepped, at: usize) -> usize
     ensures { (result ≡ length (text_at (saying_from stepped) at)) × (text.new ≡ written 0 (text_at (saying_from stepped) at) text.old) }
 {
-    let says = match stepped.says {
-        Ok(says) => says,
-        Err(why) => return text_lines::refusal_line(text, why.number(), at),
-    };
-    match says {
-        Saying::Nothing => 0,
-        Saying::Panel => {
-            let drawn = stepped.job;
-            let size = within(drawn.size, MOST_PANEL);
+    match stepped.says {
+        Err(why) => text_lines::refusal_line(text, why.number(), at),
+        Ok(Saying::Nothing) => 0,
+        Ok(Saying::Panel) => {
+            let panel = stepped.job.panel;
             let numbers = stepped.numbers;
-            let weights = drawn.panel;
-            text_lines::panel_lines(text, &numbers[..size], &weights[..size])
+            text_lines::panel_lines(text, &numbers[..panel.units()], panel.lent().weights)
         }
-        Saying::Quarter(f) => text_lines::quarter_line(text, f),
-        Saying::Close(f) => text_lines::close_line(text, f),
+        Ok(Saying::Figure(Kind::Quarter, f)) => text_lines::quarter_line(text, f),
+        Ok(Saying::Figure(Kind::Close, f)) => text_lines::close_line(text, f),
     }
 }

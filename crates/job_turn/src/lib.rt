@@ -42,13 +42,10 @@ pub fn turn(total: usize, s: &[u8], job: Job, text: &mut [u8; TEXT_ROOM]) -> Tur
         },
         Ok(Some(command)) => {
             let stepped = job::step(job, command);
-            let more = continues(stepped);
-            let count = lay(text, stepped, at);
-            let next = stepped.job;
             Turned {
-                job: next,
-                count: count,
-                more: more,
+                job: stepped.job,
+                count: lay(text, stepped, at),
+                more: continues(stepped),
             }
         }
     }

@@ -1,5 +1,4 @@
--- A place below the panel's size is a place of the array, and names a unit of the panel.
-use native.Mathlib.Omega.{arith}
+-- A place that is found is a place of the array, and names a unit of the panel.
 use mathlib.Core.Path.{refl}
 use Rattle.rules.specs.Job.{step, on_relative}
 use Rattle.job_state.proofs.Jobs.{relative_held_lem}
@@ -8,11 +7,15 @@ use Rattle.job_given.proofs.Values.{beyond, among}
 use borrow.Author.Rules.{rules}
 use Rattle.job_given.proofs.on_relative.Goals as goal
 
-pub returns-then-units-at : goal.returns-then-units-at
+pub returns-in_default : goal.returns-in_default
 unfolding step on_relative
-returns-then-units-at c = refused_step _ _ _ _ _ _ refl _ (beyond c.args.job c.args.place (search rules) (omega arith)) c.said.ensures
+returns-in_default c =
+    let number = beyond c.args.job c.args.place (search rules) _ c.place_in.ensures c.in_default.not-Some in
+    refused_step _ _ _ _ _ _ refl _ number c.said.ensures
 
 pub returns : goal.returns
 unfolding step on_relative
-returns c = plain_step_lem _ _ _ _ _ _ refl (among c.args.job c.args.place (search rules) (omega arith))
-    (relative_held_lem c.args.job c.args.place c.args.relative (omega arith)) _ _ refl c.said-2.ensures (λ ns ws. refl) refl
+returns c =
+    let found = among c.args.job c.args.place (search rules) _ c.place_in.ensures _ c.in-Some.is in
+    plain_step_lem _ _ _ _ _ _ refl found.accepted (relative_held_lem c.args.job c.args.place c.args.relative found.within) _ _ (cc) c.said-2.ensures
+    (λ ns ws. refl) refl

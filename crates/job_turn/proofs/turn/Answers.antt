@@ -21,4 +21,4 @@ returns-in-Ok-None c = renders _ _ _ _ _ _ _ c.offset-at.result (sym (ap reading
 
 pub returns-in-Ok-Some : goal.returns-in-Ok-Some
 returns-in-Ok-Some c = command_renders _ _ _ _ _ _ _ c.offset-at.result (sym (ap reading_from (c.in-Ok-Some.is ∙ ap Ok c.in-Ok-Some.field-0-is)) ∙ c.reading_at.ensures) c.offset-at.ensures _
-    c.step-stepped.ensures refl c.continues-more.ensures c.lay-count.ensures
+    c.step-stepped.ensures refl c.continues.ensures c.lay.ensures
