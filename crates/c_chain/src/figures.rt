@@ -16,10 +16,7 @@ pub extern "C" fn vougecress_quarter(lent: &[u64], relatives: &[u32]) -> Figure
     if lent.len() < record::RECORD {
         return figure_of(Err(Refusal::State));
     }
-    let held = record::load(lent);
-    let answered = held.quarter(relatives);
-    let answer = answered.answer;
-    figure_of(answer)
+    figure_of(record::load(lent).quarter(relatives).answer)
 }
 
 // The index over sectors.
@@ -27,12 +24,5 @@ pub extern "C" fn vougecress_quarter(lent: &[u64], relatives: &[u32]) -> Figure
 pub extern "C" fn vougecress_total(shares: &[u32], indices: &[u64]) -> Figure
     ensures { result ≡ figure_from (total_answer shares.now indices.now) }
 {
-    let answer = sector_total::total(shares, indices);
-    match answer {
-        Ok(figure) => Figure { refusal: 0, figure },
-        Err(why) => Figure {
-            refusal: why.number() as u32,
-            figure: 0,
-        },
-    }
+    figure_of(sector_total::total(shares, indices))
 }

@@ -4,7 +4,9 @@ ghost use Rattle.rules.specs.Panel.{with_domain};
 ghost use Rattle.c_chain.specs.Record.{opened_number, opened_list};
 
 use c_values::record;
+use chain_open::Panel;
 use chain_open_input::Lists;
+use chain_share::Outside;
 use refusals::Refusal;
 
 // Opens a chain in a lent record with an outside share; a mark that is not 0 says that the unit was sampled.
@@ -29,6 +31,13 @@ pub extern "C" fn vougecress_open_outside(
         shares,
         relatives,
     };
-    let opened = chain_open::open_outside(&lists, start, sampled, domain);
-    record::lay_opened(opened, lent)
+    let outside = Outside {
+        marks: sampled,
+        domain,
+    };
+    let panel = Panel {
+        lists,
+        outside: Some(outside),
+    };
+    record::lay_opened(panel.open(start), lent)
 }

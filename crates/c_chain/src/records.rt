@@ -29,8 +29,7 @@ pub extern "C" fn vougecress_open(
         shares,
         relatives,
     };
-    let opened = chain_open::open(&lists, start);
-    record::lay_opened(opened, lent)
+    record::lay_opened(chain_open::open(&lists, start), lent)
 }
 
 // A close on a lent record.
@@ -44,10 +43,7 @@ pub extern "C" fn vougecress_close(lent: &mut [u64], relatives: &[u32]) -> Figur
     }
     let held = record::load(lent);
     let answered = held.close(relatives);
-    let answer = answered.answer;
-    let figure = figure_of(answer);
-    let refusal = figure.refusal;
-    let next = answered.chain;
-    record::lay(refusal, next, lent);
+    let figure = figure_of(answered.answer);
+    record::lay(figure.refusal, answered.chain, lent);
     figure
 }

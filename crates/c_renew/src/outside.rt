@@ -4,7 +4,9 @@ ghost use Rattle.rules.specs.Panel.{with_domain};
 ghost use Rattle.c_renew.specs.Record.{renewed_number, renewed_list};
 
 use c_values::record;
+use chain_open::Panel;
 use chain_open_input::Lists;
+use chain_share::Outside;
 use refusals::Refusal;
 
 // Opens new weights from a lent record with an outside share; a mark that is not 0 says that the unit was sampled.
@@ -29,6 +31,13 @@ pub extern "C" fn vougecress_renew_outside(
         shares,
         relatives,
     };
-    let opened = chain_renew::renew_outside(before, &lists, sampled, domain);
-    record::lay_opened(opened, lent)
+    let outside = Outside {
+        marks: sampled,
+        domain,
+    };
+    let panel = Panel {
+        lists,
+        outside: Some(outside),
+    };
+    record::lay_opened(chain_renew::renew(before, &panel), lent)
 }

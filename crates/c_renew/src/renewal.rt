@@ -4,6 +4,7 @@ ghost use Rattle.rules.specs.Panel.{plain};
 ghost use Rattle.c_renew.specs.Record.{renewed_number, renewed_list};
 
 use c_values::record;
+use chain_open::Panel;
 use chain_open_input::Lists;
 use refusals::Refusal;
 
@@ -21,12 +22,15 @@ pub extern "C" fn vougecress_renew(
     if lent.len() < record::RECORD {
         return u32::from(Refusal::State.number());
     }
-    let held = record::load(lent);
+    let before = record::load(lent);
     let lists = Lists {
         weights,
         shares,
         relatives,
     };
-    let opened = chain_renew::renew(held, &lists);
-    record::lay_opened(opened, lent)
+    let panel = Panel {
+        lists,
+        outside: None,
+    };
+    record::lay_opened(chain_renew::renew(before, &panel), lent)
 }

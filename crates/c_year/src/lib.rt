@@ -22,9 +22,8 @@ pub struct Year {
 fn answered(came: Came) -> Year
     ensures { result ≡ year_from came }
 {
-    let verdict = came.verdict;
     let count = came.count as u64;
-    match verdict {
+    match came.verdict {
         Ok(()) => Year { refusal: 0, count },
         Err(why) => Year {
             refusal: u32::from(why.number()),
@@ -57,15 +56,11 @@ pub extern "C" fn vougecress_year(
     ensures lent_after { lent.new ≡ year_list (lent_year lent.old (four_calls first.now second.now third.now last.now) figures.old) lent.old }
     ensures figures_after { figures.new ≡ (lent_year lent.old (four_calls first.now second.now third.now last.now) figures.old).figures }
 {
-    let chain = held(lent);
-    let run = chain_year::year_of(chain, first, second, third, last, figures);
-    let came = run.came;
-    let answer = answered(came);
+    let run = chain_year::year_of(held(lent), first, second, third, last, figures);
+    let answer = answered(run.came);
     if lent.len() < record::RECORD {
         return answer;
     }
-    let refusal = answer.refusal;
-    let next = run.chain;
-    record::lay(refusal, next, lent);
+    record::lay(answer.refusal, run.chain, lent);
     answer
 }

@@ -21,7 +21,8 @@ use Rattle.chain.proofs.Chain.close.Reads as close-reads
 use Rattle.chain_open_input.specs.declared.Lists.{Lists}
 use Rattle.chain_open.specs.Opened.{opening_of}
 use Rattle.chain_open.proofs.«open».Reads as open-reads
-use Rattle.chain_open.proofs.open_outside.Reads as open-outside-reads
+use Rattle.chain_open.specs.declared.Panel as code
+use Rattle.chain_open.proofs.Panel.«open».Reads as panel-reads
 use Rattle.chain_bound.specs.Trace.{Met, Trace}
 use Rattle.chain_bound.proofs.Joint.{call_met, renewal_met, year_met}
 use Rattle.chain_bound.proofs.Demand3.{demand3_trace}
@@ -30,16 +31,14 @@ use Rattle.chain_year.proofs.year.Reads as year-reads
 use Rattle.chain_renew.specs.Renewed.{left}
 use Rattle.chain_renew.proofs.Onward.{after_is}
 use Rattle.chain_renew.proofs.renew.Reads as renew-reads
-use Rattle.chain_renew.proofs.renew_outside.Reads as renew-outside-reads
 use Rattle.chain_bound_code.specs.Calls.{PanelOpened, PanelRenewed, CallsMade}
 
--- None of the seven asks anything of its caller: every list of calls can be made.
+-- None of the six asks anything of its caller: every list of calls can be made.
 pub open_asks : (κs : Lfts 2) (lent : Bor Lists) (start : ℕ) → open-reads.Asked κs (lent, (start, tt))
 open_asks κs lent start = tt
 
-pub open_outside_asks : (κs : Lfts 3) (lent : Bor Lists) (marks : Bor (List ℕ)) (start domain : ℕ) →
-    open-outside-reads.Asked κs (lent, (start, (marks, (domain, tt))))
-open_outside_asks κs lent marks start domain = tt
+pub panel_asks : (κs : Lfts 2) (lent : Bor code.Panel) (start : ℕ) → panel-reads.Asked κs (lent, (start, tt))
+panel_asks κs lent start = tt
 
 pub quarter_asks : (κs : Lfts 1) (c : Chain) (p : Bor (List ℕ)) → quarter-reads.Asked κs (c, (p, tt))
 quarter_asks κs c p = tt
@@ -51,18 +50,13 @@ pub year_asks : (κs : Lfts 6) (lent : MutBor Chain) (q₁ q₂ q₃ p : Bor (Li
     year-reads.Asked κs (lent, (q₁, (q₂, (q₃, (p, (buffer, tt))))))
 year_asks κs lent q₁ q₂ q₃ p buffer = tt
 
-pub renew_asks : (κs : Lfts 2) (c : Chain) (lent : Bor Lists) → renew-reads.Asked κs (c, (lent, tt))
+pub renew_asks : (κs : Lfts 2) (c : Chain) (lent : Bor code.Panel) → renew-reads.Asked κs (c, (lent, tt))
 renew_asks κs c lent = tt
-
-pub renew_outside_asks : (κs : Lfts 3) (c : Chain) (lent : Bor Lists) (marks : Bor (List ℕ)) (domain : ℕ) →
-    renew-outside-reads.Asked κs (c, (lent, (marks, (domain, tt))))
-renew_outside_asks κs c lent marks domain = tt
 
 -- a renewal of the code, with or without an outside share, is the definitions'
 renewed : {c : Chain} {p : Panel} {o : Result Chain Refusal} → PanelRenewed c p o →
     Met (record_of c) (Made.renewal p) (renewal_event p (opening_of o) ∷ []) (record_of (left c o))
-renewed (PanelRenewed.without made) = renewal_met _ _ _ _ made.learnt (after_is _ _ _ made.learnt)
-renewed (PanelRenewed.outside made) = renewal_met _ _ _ _ made.learnt (after_is _ _ _ made.learnt)
+renewed (PanelRenewed.either made) = renewal_met _ _ _ _ made.learnt (after_is _ _ _ made.learnt)
 
 -- calls of the code are a trace of the definitions
 trace : {c : Chain} {list : List Made} {given : List Event} → CallsMade c list given → Trace (record_of c) list given
@@ -79,7 +73,7 @@ trace (CallsMade.renewal m rest) = Trace.next (renewed m) (trace rest)
 opened : {p : Panel} {start : ℕ} {o : Result Chain Refusal} (c : Chain) → PanelOpened p start o → o ≡ Ok c → panel_answer p start ≡ Judged.given (record_of c)
 unfolding rules.open_answer panel_answer
 opened c (PanelOpened.without made) accepted = sym made.learnt ∙ ap opening_of accepted
-opened c (PanelOpened.outside made) accepted = sym made.learnt ∙ ap opening_of accepted
+opened c (PanelOpened.either made) accepted = sym made.learnt ∙ ap opening_of accepted
 
 -- The theorem: p and start are what the open was handed, o is what it answered, and c is the record that this holds.
 pub demand3 : (p : Panel) (start : ℕ) (o : Result Chain Refusal) → PanelOpened p start o → (c : Chain) → o ≡ Ok c →

@@ -1,5 +1,5 @@
--- `Learnt` is what the code gives, and no hypothesis: of either open, quarter, close, year and either renewal, called by name, a caller knows it by the
--- function's own theorem.
+-- `Learnt` is what the code gives, and no hypothesis: of either open, quarter, close, year and renew, called by name, a caller knows it by the function's own
+-- theorem.
 use mathlib.Core.Path.{◌≡◌}
 use mathlib.Core.List.{List}
 use Prim.Native.Nat.{ℕ}
@@ -22,18 +22,14 @@ use Rattle.chain_open.proofs.«open».Kinds as open-kinds
 use Rattle.chain_open.proofs.«open».Reads as open-reads
 use Rattle.chain_open.proofs.«open».Met as open-theorem
 use Rattle.chain_open.proofs.«open».Symbol as open-symbol
-use Rattle.chain_open.proofs.open_outside.Kinds as open-outside-kinds
-use Rattle.chain_open.proofs.open_outside.Reads as open-outside-reads
-use Rattle.chain_open.proofs.open_outside.Met as open-outside-theorem
-use Rattle.chain_open.proofs.open_outside.Symbol as open-outside-symbol
+use Rattle.chain_open.proofs.Panel.«open».Kinds as panel-kinds
+use Rattle.chain_open.proofs.Panel.«open».Reads as panel-reads
+use Rattle.chain_open.proofs.Panel.«open».Met as panel-theorem
+use Rattle.chain_open.proofs.Panel.«open».Symbol as panel-symbol
 use Rattle.chain_renew.proofs.renew.Kinds as renew-kinds
 use Rattle.chain_renew.proofs.renew.Reads as renew-reads
 use Rattle.chain_renew.proofs.renew.Met as renew-theorem
 use Rattle.chain_renew.proofs.renew.Symbol as renew-symbol
-use Rattle.chain_renew.proofs.renew_outside.Kinds as renew-outside-kinds
-use Rattle.chain_renew.proofs.renew_outside.Reads as renew-outside-reads
-use Rattle.chain_renew.proofs.renew_outside.Met as renew-outside-theorem
-use Rattle.chain_renew.proofs.renew_outside.Symbol as renew-outside-symbol
 use Rattle.chain_year.proofs.year.Kinds as year-kinds
 use Rattle.chain_year.proofs.year.Reads as year-reads
 use Rattle.chain_year.proofs.year.Met as year-theorem
@@ -49,10 +45,10 @@ module _ (w : World) (γ : Env) where
   open_known wired same =
       open-reads.known w γ open-symbol.name (w.𝓡.env open-symbol.name) same (open-theorem.met w.𝓤 w.𝓛 w.𝓜 w.𝓡 wired)
 
-  pub open_outside_known : Wired w.𝓡.env open-outside-symbol.code → γ open-outside-symbol.name ≡ w.𝓡.env open-outside-symbol.name →
-      KnownBy 3 open-outside-kinds.ps open-outside-kinds.r open-outside-reads.Asked open-outside-reads.Learnt open-outside-symbol.name
-  open_outside_known wired same =
-      open-outside-reads.known w γ open-outside-symbol.name (w.𝓡.env open-outside-symbol.name) same (open-outside-theorem.met w.𝓤 w.𝓛 w.𝓜 w.𝓡 wired)
+  pub panel_known : Wired w.𝓡.env panel-symbol.code → γ panel-symbol.name ≡ w.𝓡.env panel-symbol.name →
+      KnownBy 2 panel-kinds.ps panel-kinds.r panel-reads.Asked panel-reads.Learnt panel-symbol.name
+  panel_known wired same =
+      panel-reads.known w γ panel-symbol.name (w.𝓡.env panel-symbol.name) same (panel-theorem.met w.𝓤 w.𝓛 w.𝓜 w.𝓡 wired)
 
   pub quarter_known : Wired w.𝓡.env quarter-symbol.code → γ quarter-symbol.name ≡ w.𝓡.env quarter-symbol.name →
       KnownBy 1 quarter-kinds.ps quarter-kinds.r quarter-reads.Asked quarter-reads.Learnt quarter-symbol.name
@@ -73,8 +69,3 @@ module _ (w : World) (γ : Env) where
       KnownBy 2 renew-kinds.ps renew-kinds.r renew-reads.Asked renew-reads.Learnt renew-symbol.name
   renew_known wired same =
       renew-reads.known w γ renew-symbol.name (w.𝓡.env renew-symbol.name) same (renew-theorem.met w.𝓤 w.𝓛 w.𝓜 w.𝓡 wired)
-
-  pub renew_outside_known : Wired w.𝓡.env renew-outside-symbol.code → γ renew-outside-symbol.name ≡ w.𝓡.env renew-outside-symbol.name →
-      KnownBy 3 renew-outside-kinds.ps renew-outside-kinds.r renew-outside-reads.Asked renew-outside-reads.Learnt renew-outside-symbol.name
-  renew_outside_known wired same =
-      renew-outside-reads.known w γ renew-outside-symbol.name (w.𝓡.env renew-outside-symbol.name) same (renew-outside-theorem.met w.𝓤 w.𝓛 w.𝓜 w.𝓡 wired)

@@ -1,6 +1,5 @@
--- Document 01, demand 3, with document 02, [6], [7] and [11]: calls that a program makes of `chain_open::open` or `chain_open::open_outside`,
--- `Chain::quarter`, `Chain::close`, `chain_year::year`, and `chain_renew::renew` or `chain_renew::renew_outside`, each handed the record that the call
--- before it handed back. Of a call is known what Rattle lets its caller know: `Learnt` of the module `Reads` that it makes of the function's own `ensures`.
+-- Document 01, demand 3, with document 02, [6], [7] and [11]: calls that a program makes of `chain_open::open` or `Panel::open`, `Chain::quarter`,
+-- `Chain::close`, `chain_year::year` and `chain_renew::renew`, each handed the record that the call before it handed back. Of a call is known what Rattle lets its caller know: `Learnt` of the module `Reads` that it makes of the function's own `ensures`.
 -- No line here repeats a contract.
 use Rattle.std.specs.Prelude.{Result, ℕ, ◌≡◌, List, [], ◌∷◌, ◌++◌, length, take}
 use contract.Lifetimes.{Lfts}
@@ -9,7 +8,7 @@ use denote.Triple.Clauses.{AtExit}
 use Rattle.refusals.specs.Number.{refusal_of}
 use Rattle.refusals.specs.declared.Refusal.{Refusal}
 use Rattle.rules.specs.Chain.{Call}
-use Rattle.rules.specs.Panel.{Panel, plain, with_domain}
+use Rattle.rules.specs.Panel.{Panel, plain}
 use Rattle.rules.specs.Year.{four_calls}
 use Rattle.rules.specs.Events.{Event, Made, event_of, renewal_event}
 use Rattle.chain_bound.specs.Trace.{year_told}
@@ -25,16 +24,16 @@ use Rattle.chain_open_input.specs.declared.Lists.{Lists}
 use Rattle.chain_open.specs.Opened.{opening_of}
 use Rattle.chain_open.specs.contracts.«open» as open-contract
 use Rattle.chain_open.proofs.«open».Reads as open-reads
-use Rattle.chain_open.specs.contracts.open_outside as open-outside-contract
-use Rattle.chain_open.proofs.open_outside.Reads as open-outside-reads
+use Rattle.chain_open.specs.Panel.{panel_of}
+use Rattle.chain_open.specs.declared.Panel as code
+use Rattle.chain_open.specs.contracts.Panel.«open» as panel-contract
+use Rattle.chain_open.proofs.Panel.«open».Reads as panel-reads
 use Rattle.chain_year.specs.declared.Came.{Came}
 use Rattle.chain_year.specs.contracts.year as year-contract
 use Rattle.chain_year.proofs.year.Reads as year-reads
 use Rattle.chain_renew.specs.Renewed.{left}
 use Rattle.chain_renew.specs.contracts.renew as renew-contract
 use Rattle.chain_renew.proofs.renew.Reads as renew-reads
-use Rattle.chain_renew.specs.contracts.renew_outside as renew-outside-contract
-use Rattle.chain_renew.proofs.renew_outside.Reads as renew-outside-reads
 
 -- `chain_open::open` of the lent lists and of start returned o; `lent.now` is what was lent.
 pub record OpenMade (lent : Bor Lists) (start : ℕ) (o : Result Chain Refusal) : Type 0 where
@@ -42,35 +41,26 @@ pub record OpenMade (lent : Bor Lists) (start : ℕ) (o : Result Chain Refusal) 
   pub end : AtExit open-contract.ended lifetimes
   pub learnt : open-reads.Learnt lifetimes (lent, (start, tt)) o end
 
--- `chain_open::open_outside` of the lent lists, of start, of the marks and of share returned o.
-pub record OpenOutsideMade (lent : Bor Lists) (start : ℕ) (marks : Bor (List ℕ)) (domain : ℕ) (o : Result Chain Refusal) : Type 0 where
-  pub lifetimes : Lfts 3
-  pub end : AtExit open-outside-contract.ended lifetimes
-  pub learnt : open-outside-reads.Learnt lifetimes (lent, (start, (marks, (domain, tt)))) o end
+-- `Panel::open` of the lent panel and of start returned o.
+pub record PanelMade (lent : Bor code.Panel) (start : ℕ) (o : Result Chain Refusal) : Type 0 where
+  pub lifetimes : Lfts 2
+  pub end : AtExit panel-contract.ended lifetimes
+  pub learnt : panel-reads.Learnt lifetimes (lent, (start, tt)) o end
 
--- Either of the two, with the panel that it was handed.
+-- Either of the two, with the panel that it was handed, which brings an outside share or does not.
 pub data PanelOpened : Panel → ℕ → Result Chain Refusal → Type 0 where
   without : {lent : Bor Lists} {start : ℕ} {o : Result Chain Refusal} → OpenMade lent start o → PanelOpened (over plain lent.now) start o
-  outside : {lent : Bor Lists} {start : ℕ} {marks : Bor (List ℕ)} {domain : ℕ} {o : Result Chain Refusal} →
-      OpenOutsideMade lent start marks domain o → PanelOpened (over (with_domain domain marks.now) lent.now) start o
+  either : {lent : Bor code.Panel} {start : ℕ} {o : Result Chain Refusal} → PanelMade lent start o → PanelOpened (panel_of lent.now) start o
 
--- `chain_renew::renew` of c and the lent lists returned o
-pub record RenewMade (c : Chain) (lent : Bor Lists) (o : Result Chain Refusal) : Type 0 where
+-- `chain_renew::renew` of c and the lent panel returned o
+pub record RenewMade (c : Chain) (lent : Bor code.Panel) (o : Result Chain Refusal) : Type 0 where
   pub lifetimes : Lfts 2
   pub end : AtExit renew-contract.ended lifetimes
   pub learnt : renew-reads.Learnt lifetimes (c, (lent, tt)) o end
 
--- `chain_renew::renew_outside` of these, of the marks and of the outside share returned o
-pub record RenewOutsideMade (c : Chain) (lent : Bor Lists) (marks : Bor (List ℕ)) (domain : ℕ) (o : Result Chain Refusal) : Type 0 where
-  pub lifetimes : Lfts 3
-  pub end : AtExit renew-outside-contract.ended lifetimes
-  pub learnt : renew-outside-reads.Learnt lifetimes (c, (lent, (marks, (domain, tt)))) o end
-
--- Either of the two, with the panel that it was handed.
+-- The same, with the panel that it was handed, which brings an outside share or does not.
 pub data PanelRenewed : Chain → Panel → Result Chain Refusal → Type 0 where
-  without : {c : Chain} {lent : Bor Lists} {o : Result Chain Refusal} → RenewMade c lent o → PanelRenewed c (over plain lent.now) o
-  outside : {c : Chain} {lent : Bor Lists} {marks : Bor (List ℕ)} {domain : ℕ} {o : Result Chain Refusal} →
-      RenewOutsideMade c lent marks domain o → PanelRenewed c (over (with_domain domain marks.now) lent.now) o
+  either : {c : Chain} {lent : Bor code.Panel} {o : Result Chain Refusal} → RenewMade c lent o → PanelRenewed c (panel_of lent.now) o
 
 -- `Chain::quarter` of c and the slice p returned r
 pub record QuarterMade (c : Chain) (p : Bor (List ℕ)) (r : Answered) : Type 0 where

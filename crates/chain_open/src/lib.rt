@@ -2,17 +2,20 @@
 // the opening that also brings an outside share.
 #![tactic(auto)]
 
+ghost use Rattle.refusals.specs.Number.{refusal_of};
 ghost use Rattle.std.specs.Prelude.{◌≡◌, ◌≤◌, length};
 ghost use Rattle.rules.specs.Limits.{most_panel};
 ghost use Rattle.rules.specs.Chain.{open_answer};
-ghost use Rattle.rules.specs.Panel.{with_domain, panel_answer};
+ghost use Rattle.rules.specs.Panel.{panel_shared, panel_answer};
 ghost use Rattle.chain_open_input.specs.Lists.{over};
 ghost use Rattle.chain_open_weights.specs.Weighable.{Weighable};
 ghost use Rattle.chain_open.specs.Opened.{opening_of, weighed_answer};
+ghost use Rattle.chain_open.specs.Panel.{panel_of, input_refusal, CanShare};
 
 use chain::Chain;
 use chain_open_input::Lists;
 use chain_record::Numbers;
+use chain_share::Outside;
 use limits::MOST_PANEL;
 use refusals::Refusal;
 
@@ -30,23 +33,54 @@ fn open_from(marks: &[u32], u: &[u64], a: &[u32], start: u64) -> Result<Chain, R
     })
 }
 
+// What an opening brings beside its start index: the lists, and perhaps an outside share.
+#[derive(Clone, Copy)]
+pub struct Panel<'a> {
+    pub lists: Lists<'a>,
+    pub outside: Option<Outside<'a>>,
+}
+
+impl Panel<'_> {
+    // 9 to 13, and where there is an outside share 29.
+    fn judge(&self, start: u64) -> Result<(), Refusal>
+        ensures { refusal_of result ≡ input_refusal (panel_of self.now) start }
+    {
+        match self.outside {
+            Some(outside) => outside.judge(&self.lists, start),
+            None => chain_open_input::judge_input(&self.lists, start),
+        }
+    }
+
+    // The u, with an outside share or without.
+    fn share_into(&self, u: &mut [u64])
+        requires { CanShare (panel_of self.now).outside self.now.lists.weights.now self.now.lists.shares.now u.old }
+        ensures { u.new ≡ panel_shared (panel_of self.now) }
+    {
+        match self.outside {
+            Some(outside) => outside.share_into(&self.lists, u),
+            None => chain_open_weights::share_into(self.lists.weights, self.lists.shares, u),
+        }
+    }
+
+    // Either opening.
+    pub fn open(&self, start: u64) -> Result<Chain, Refusal>
+        ensures { opening_of result ≡ panel_answer (panel_of self.now) start }
+    {
+        self.judge(start)?;
+        let n = self.lists.weights.len();
+        let mut u = [0u64; MOST_PANEL];
+        self.share_into(&mut u[..n]);
+        open_from(self.lists.shares, &u[..n], self.lists.relatives, start)
+    }
+}
+
+// The opening without an outside share.
 pub fn open(lists: &Lists, start: u64) -> Result<Chain, Refusal>
     ensures { opening_of result ≡ over open_answer lists.now start }
 {
-    chain_open_input::judge_input(lists, start)?;
-    let n = lists.weights.len();
-    let mut u = [0u64; MOST_PANEL];
-    chain_open_weights::share_into(lists.weights, lists.shares, &mut u[..n]);
-    open_from(lists.shares, &u[..n], lists.relatives, start)
-}
-
-// The opening with an outside share. A mark that is not 0 says that the unit was sampled.
-pub fn open_outside(lists: &Lists, start: u64, marks: &[u8], domain: u32) -> Result<Chain, Refusal>
-    ensures { opening_of result ≡ panel_answer (over (with_domain domain marks.now) lists.now) start }
-{
-    chain_share::judge(lists, start, marks, domain)?;
-    let n = lists.weights.len();
-    let mut shared = [0u64; MOST_PANEL];
-    chain_share::share_into(lists.weights, lists.shares, marks, domain, &mut shared[..n]);
-    open_from(lists.shares, &shared[..n], lists.relatives, start)
+    let panel = Panel {
+        lists: *lists,
+        outside: None,
+    };
+    panel.open(start)
 }

@@ -5,14 +5,13 @@ ghost use Rattle.std.specs.Prelude.{◌≡◌};
 ghost use Rattle.refusals.specs.Number.{refusal_of};
 ghost use Rattle.rules.specs.Refusals.{refuse};
 ghost use Rattle.rules.specs.Chain.{broken};
-ghost use Rattle.rules.specs.Panel.{plain, with_domain};
 ghost use Rattle.rules.specs.Renewal.{with_links, renewal_answer};
 ghost use Rattle.chain.specs.Record.{record_of};
-ghost use Rattle.chain_open_input.specs.Lists.{over};
 ghost use Rattle.chain_open.specs.Opened.{opening_of};
+ghost use Rattle.chain_open.specs.Panel.{panel_of};
 
 use chain::Chain;
-use chain_open_input::Lists;
+use chain_open::Panel;
 use chain_record::Numbers;
 use refusals::Refusal;
 
@@ -26,7 +25,7 @@ fn judge(chain: &Chain) -> Result<(), Refusal>
     Ok(())
 }
 
-// The opened record with the links made before it, whichever opening that was.
+// The opened record with the links made before it.
 fn carried(opened: Chain, before: Numbers) -> Chain
     ensures { record_of result ≡ with_links before.links (record_of opened) }
 {
@@ -37,24 +36,10 @@ fn carried(opened: Chain, before: Numbers) -> Chain
 }
 
 // A renewal. Nothing of the record but its C and its links goes on; 19 judges all of it. Where it is refused, the caller's record is what it was.
-pub fn renew(chain: Chain, lists: &Lists) -> Result<Chain, Refusal>
-    ensures { opening_of result ≡ renewal_answer (record_of chain) (over plain lists.now) }
+pub fn renew(chain: Chain, panel: &Panel) -> Result<Chain, Refusal>
+    ensures { opening_of result ≡ renewal_answer (record_of chain) (panel_of panel.now) }
 {
     judge(&chain)?;
-    let opened = chain_open::open(lists, chain.numbers.index)?;
+    let opened = panel.open(chain.numbers.index)?;
     Ok(carried(opened, chain.numbers))
-}
-
-// A renewal with an outside share. A mark that is not 0 says that the unit was sampled.
-pub fn renew_outside(
-    chain: Chain,
-    lists: &Lists,
-    marks: &[u8],
-    domain: u32,
-) -> Result<Chain, Refusal>
-    ensures { opening_of result ≡ renewal_answer (record_of chain) (over (with_domain domain marks.now) lists.now) }
-{
-    judge(&chain)?;
-    let outside = chain_open::open_outside(lists, chain.numbers.index, marks, domain)?;
-    Ok(carried(outside, chain.numbers))
 }

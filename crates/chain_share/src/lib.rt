@@ -13,43 +13,6 @@ use chain_open_input::Lists;
 use limits::SHARE_SCALE;
 use refusals::Refusal;
 
-// 29: some unit is sampled and G is 0 or over 1, the sampled shares are all 0, or sampled units differ in W.
-fn bad_outside(marks: &[u8], w: &[u64], g: &[u32], domain: u32) -> bool
-    requires { Marked marks.now w.now g.now }
-    ensures { result ≡ bad_outside domain marks.now w.now g.now }
-{
-    let sampled = chain_sampled::count(marks, g);
-    if sampled.size == 0 {
-        return false;
-    }
-    if domain == 0 {
-        return true;
-    }
-    if SHARE_SCALE < domain as u64 {
-        return true;
-    }
-    if sampled.shares == 0 {
-        return true;
-    }
-    let x = chain_sampled::first(marks, w);
-    chain_sampled::any_other(marks, w, x)
-}
-
-// 9 to 13, and then 29.
-pub fn judge(lists: &Lists, start: u64, marks: &[u8], domain: u32) -> Result<(), Refusal>
-    ensures { refusal_of result ≡ over (outside_input_refusal domain marks.now) lists.now start }
-{
-    let w = lists.weights;
-    if marks.len() != w.len() {
-        return Err(Refusal::UnitLists);
-    }
-    chain_open_input::judge_input(lists, start)?;
-    if bad_outside(marks, w, lists.shares, domain) {
-        return Err(Refusal::OutsideShare);
-    }
-    Ok(())
-}
-
 // floor(n × X × G / 10,000).
 fn inner(size: u64, x: u64, domain: u32) -> u64
     requires { (size * x < 2 ^ 64) × (size * x * domain < 2 ^ 64) }
@@ -80,13 +43,65 @@ fn lay(marks: &[u8], w: &[u64], g: &[u32], inner: u64, t: u64, u: &mut [u64])
     }
 }
 
-// The u of an opening that 9 to 13 and 29 let pass. With no sampled unit nothing is made of G.
-pub fn share_into(w: &[u64], g: &[u32], marks: &[u8], domain: u32, u: &mut [u64])
-    requires { Outsideable domain marks.now w.now g.now u.old }
-    ensures { u.new ≡ outside_shared domain marks.now w.now g.now }
-{
-    let sampled = chain_sampled::count(marks, g);
-    let x = chain_sampled::first(marks, w);
-    let whole = inner(sampled.size, x, domain);
-    lay(marks, w, g, whole, sampled.shares, u);
+// What an opening from the national accounts brings beside its lists: a domain's share G, and a mark for each unit. One that is not 0 says "sampled".
+#[derive(Clone, Copy)]
+pub struct Outside<'a> {
+    pub marks: &'a [u8],
+    pub domain: u32,
+}
+
+impl Outside<'_> {
+    // 29: some unit is sampled and G is 0 or over 1, the sampled shares are all 0, or sampled units differ in W.
+    fn is_bad(&self, w: &[u64], g: &[u32]) -> bool
+        requires { Marked self.now.marks.now w.now g.now }
+        ensures { result ≡ bad_outside self.now.domain self.now.marks.now w.now g.now }
+    {
+        let marks = self.marks;
+        let domain = self.domain;
+        let sampled = chain_sampled::count(marks, g);
+        if sampled.size == 0 {
+            return false;
+        }
+        if domain == 0 {
+            return true;
+        }
+        if SHARE_SCALE < domain as u64 {
+            return true;
+        }
+        if sampled.shares == 0 {
+            return true;
+        }
+        let x = chain_sampled::first(marks, w);
+        chain_sampled::any_other(marks, w, x)
+    }
+
+    // 9 to 13, and then 29.
+    pub fn judge(&self, lists: &Lists, start: u64) -> Result<(), Refusal>
+        ensures { refusal_of result ≡ over (outside_input_refusal self.now.domain self.now.marks.now) lists.now start }
+    {
+        let w = lists.weights;
+        let marks = self.marks;
+        if marks.len() != w.len() {
+            return Err(Refusal::UnitLists);
+        }
+        chain_open_input::judge_input(lists, start)?;
+        if self.is_bad(w, lists.shares) {
+            return Err(Refusal::OutsideShare);
+        }
+        Ok(())
+    }
+
+    // The u of an opening that 9 to 13 and 29 let pass. With no sampled unit nothing is made of G.
+    pub fn share_into(&self, lists: &Lists, u: &mut [u64])
+        requires { Outsideable self.now.domain self.now.marks.now lists.now.weights.now lists.now.shares.now u.old }
+        ensures { u.new ≡ outside_shared self.now.domain self.now.marks.now lists.now.weights.now lists.now.shares.now }
+    {
+        let marks = self.marks;
+        let w = lists.weights;
+        let g = lists.shares;
+        let sampled = chain_sampled::count(marks, g);
+        let x = chain_sampled::first(marks, w);
+        let whole = inner(sampled.size, x, self.domain);
+        lay(marks, w, g, whole, sampled.shares, u);
+    }
 }

@@ -1,15 +1,17 @@
 -- A year under way: what one call makes of it, by what the code's call answers, and what the calls come to in turn.
 use mathlib.Core.Path.{◌≡◌, refl, sym, ap, ap₂, ◌∙◌}
-use mathlib.Core.List.{List, [], ◌∷◌, ◌++◌}
+use mathlib.Core.List.{List, [], ◌∷◌}
 use Prim.Native.Nat.{ℕ, zero, suc, ◌+◌, ◌≤◌, ◌<◌}
 use native.Mathlib.Omega.{arith}
 use native.Mathlib.Numerals.{add-one}
-use lib.ListN.{length, set, length-set, length-append}
+use lib.ListN.{length, get_or, drop, set, length-set}
 use borrow.Author.Tests.{lt-ltb, le-ltb}
-use Rattle.refusals.specs.Number.{refusal_of}
+use denote.Ref.{Bor}
+use Rattle.refusals.specs.Number.{number_of}
 use Rattle.refusals.specs.declared.Refusal.{Refusal}
 use Rattle.std.specs.Prelude.{Result, Ok, Err}
 use Rattle.refusals.proofs.Answers.{stays_by}
+use Rattle.refusals.proofs.Numbers.{number_is_suc}
 use Rattle.rules.specs.Limits.{year_places}
 use Rattle.rules.specs.Refusals.{refuse, ◌then◌, stays, written}
 use Rattle.rules.specs.Chain as rules
@@ -17,53 +19,33 @@ use Rattle.rules.specs.Chain.{Call, relatives, figure_of, call_refusal, call_ans
 use Rattle.rules.specs.Year.{four_calls, stops_by, figures_of, up_to, after_all, room_refusal, year_refusal, year_figures, year_after, Year, year_of}
 use Rattle.rules.proofs.Refusals.{stays_goes, given_tells, refused_tells}
 use Rattle.rules.proofs.Years.{four_left}
-use Rattle.chain.specs.declared.Chain.{Chain}
-use Rattle.chain.specs.Record.{record_of, answer_from}
-use Rattle.chain_year.specs.declared.Run.{Run}
-use Rattle.chain_year.specs.Run.{run_with, year_in, stopped, taken, further}
+use Rattle.chain.specs.Record.{call_by, answer_from}
+use Rattle.chain.specs.declared.Kind.{Kind}
 
 -- ---- one call more
-module _ (run : Run) (call : Call) (buffer : List ℕ) where
-  -- a year that was stopped makes none
-  pub stopped_stage : (why : Refusal) → run.came.verdict ≡ Err why → year_in run buffer ≡ further (year_in run buffer) call
-  unfolding further
-  stopped_stage why told = stays_by why _ (sym (ap refusal_of told)) _ _
+-- what a year has come to: the number that stopped it or 0, the calls that were accepted, the record and the buffer
+abbrev pub stage : ℕ → ℕ → rules.Chain → List ℕ → Year
+stage n k r buffer = record { refusal = n; count = k; chain = r; figures = buffer }
 
-  -- one that goes on makes it, and the code's call of it answers x
-  module _ (goes : run.came.verdict ≡ Ok tt) (x : Result ℕ Refusal) (e : answer_from x ≡ call_answer (record_of run.chain) call) where
-    further_goes : let s = year_in run buffer in
-        further s call ≡ stays (call_refusal s.chain call) (stopped s (call_refusal s.chain call)) (taken s call)
-    unfolding further
-    further_goes = stays_goes _ _ _ (ap refusal_of goes)
+-- unless one was refused: a refused call stops the year, and an accepted one leaves its figure in the next place, and the record after it
+unfoldable pub further : Year → Call → Year
+further s call =
+    stays s.refusal s (stays (call_refusal s.chain call) (stage (call_refusal s.chain call) s.count s.chain s.figures)
+    (stage 0 (s.count + 1) (after s.chain call) (set s.figures s.count (figure_of s.chain (relatives call)))))
 
-    pub refused_stage : (why : Refusal) → x ≡ Err why → (next : Run) → next ≡ run_with run.chain (Err why) run.came.count →
-        year_in next buffer ≡ further (year_in run buffer) call
-    unfolding call_answer
-    refused_stage why told next made =
-        let r = record_of run.chain in
-        let s = year_in run buffer in
-        let number = refused_tells (call_refusal r call) _ (figure_of r (relatives call)) (sym (ap answer_from told) ∙ e) in
-        rw made (ap (stopped s) number ∙ stays_by why (call_refusal r call) number _ (taken s call) ∙ sym further_goes)
+-- from what the code's call answers, x
+module _ (k : ℕ) (r : rules.Chain) (buffer : List ℕ) (call : Call) (x : Result ℕ Refusal) (e : answer_from x ≡ call_answer r call) where
+  refused_stage : (why : Refusal) → x ≡ Err why → stage (number_of why) k r buffer ≡ further (stage 0 k r buffer) call
+  unfolding further call_answer
+  refused_stage why told =
+      let number = refused_tells (call_refusal r call) _ (figure_of r (relatives call)) (sym (ap answer_from told) ∙ e) in
+      ap (λ (n : ℕ). stage n k r buffer) number ∙ stays_by why (call_refusal r call) number _ _
 
-    pub taken_stage : (f : ℕ) → x ≡ Ok f → (next : Run) → next.came.verdict ≡ Ok tt → next.came.count ≡ run.came.count + 1 →
-        record_of next.chain ≡ after (record_of run.chain) call → year_in next (set buffer run.came.count f) ≡ further (year_in run buffer) call
-    unfolding call_answer
-    taken_stage f told next accepted counted left =
-        let r = record_of run.chain in
-        let s = year_in run buffer in
-        let n = call_refusal r call in
-        let given = given_tells n (figure_of r (relatives call)) _ (sym (ap answer_from told) ∙ e) in
-        rw (accepted, counted, left, given.1) (sym (further_goes ∙ stays_goes n (stopped s n) (taken s call) given.0))
-
--- a call fills one place at most
-pub further_count : (s : Year) (call : Call) → (further s call).count ≤ s.count + 1
-unfolding further
-further_count s call = go s.refusal (call_refusal s.chain call)
-  where
-    go : (n m : ℕ) → (stays n s (stays m (stopped s (call_refusal s.chain call)) (taken s call))).count ≤ s.count + 1
-    go zero zero = omega arith
-    go zero (suc m) = omega arith
-    go (suc n) m = omega arith
+  taken_stage : (f : ℕ) → x ≡ Ok f → (next : rules.Chain) → next ≡ after r call → stage 0 (k + 1) next (set buffer k f) ≡ further (stage 0 k r buffer) call
+  unfolding further call_answer
+  taken_stage f told next left =
+      let given = given_tells (call_refusal r call) (figure_of r (relatives call)) _ (sym (ap answer_from told) ∙ e) in
+      rw (left, given.1) (sym (stays_goes (call_refusal r call) _ _ given.0))
 
 -- ---- several calls
 abbrev pub onward : Year → List Call → Year
@@ -87,13 +69,10 @@ laid_none (suc k) [] h = absurd (omega arith)
 laid_none (suc k) (x ∷ buffer) h = ap (λ (l : List ℕ). x ∷ l) (laid_none k buffer (omega arith))
 
 -- a stopped year stays as it is
-onward_stops : (s : Year) (n : ℕ) (calls : List Call) → onward (stopped s (suc n)) calls ≡ stopped s (suc n)
+onward_stops : (n k : ℕ) (r : rules.Chain) (buffer : List ℕ) (calls : List Call) → onward (stage (suc n) k r buffer) calls ≡ stage (suc n) k r buffer
 unfolding further
-onward_stops s n [] = refl
-onward_stops s n (call ∷ calls) = onward_stops s n calls
-
-abbrev stage : ℕ → ℕ → rules.Chain → List ℕ → Year
-stage n k r buffer = record { refusal = n; count = k; chain = r; figures = buffer }
+onward_stops n k r buffer [] = refl
+onward_stops n k r buffer (call ∷ calls) = onward_stops n k r buffer calls
 
 -- a year with k figures in its buffer comes with these calls to …
 abbrev came : ℕ → rules.Chain → List ℕ → List Call → Year
@@ -123,52 +102,64 @@ onward_is (call ∷ calls) k r buffer h =
         let count : k + 1 + length (figures_of s calls) ≡ k + length (f ∷ figures_of s calls) = omega arith in
         let next = laid_next k f (figures_of s calls) buffer (omega arith) in
         later s ∙ rw add-one (ap₂ (λ (c : ℕ) (l : List ℕ). stage (stops_by s calls) c (after_all s (up_to s calls)) l) (rw add-one at count) next)
-    go (suc n) s e later = onward_stops (stage 0 k r buffer) n calls ∙ rw e (no_more (suc n) k r buffer (omega arith))
+    go (suc n) s e later = onward_stops n k r buffer calls ∙ rw e (no_more (suc n) k r buffer (omega arith))
 
 -- ---- the year, call after call
--- What is known after these calls of the run and the buffer that they left, beside the record r and the buffer `before` that came in.
-pub record Way (r : rules.Chain) (before : List ℕ) (calls : List Call) (run : Run) (buffer : List ℕ) : Type 0 where
-  pub reached : year_in run buffer ≡ onward (stage 0 0 r before) calls
-  pub few : run.came.count ≤ length calls
+-- Before call k, with the record s and this buffer, beside the record r and the buffer `before` that came in: the calls that are left come to what all do.
+pub record Under (r : rules.Chain) (before : List ℕ) (calls : List Call) (k : ℕ) (s : rules.Chain) (buffer : List ℕ) : Type 0 where
+  pub goes_on : onward (stage 0 k s buffer) (drop k calls) ≡ onward (stage 0 0 r before) calls
   pub long : length buffer ≡ length before
 
-onward_more : (s : Year) (calls : List Call) (call : Call) → onward s (calls ++ call ∷ []) ≡ further (onward s calls) call
-onward_more s [] call = refl
-onward_more s (earlier ∷ calls) call = onward_more (further s earlier) calls call
+-- the calls that the code's pairs ask for, and the next of them
+abbrev pub call_in : Kind × Bor (List ℕ) → Call
+call_in x = call_by x.0 x.1.now
 
-module _ {r : rules.Chain} {before : List ℕ} where
-  pub way_begins : (run : Run) (chain : Chain) → run ≡ run_with chain (Ok tt) 0 → record_of chain ≡ r → Way r before [] run before
-  way_begins run chain made same =
-      record { reached = rw (made, same); few = rw made (omega arith); long = refl }
+abbrev pub asked : List (Kind × Bor (List ℕ)) → List Call
+asked [] = []
+asked (x ∷ xs) = call_in x ∷ asked xs
 
-  pub way_next : {calls : List Call} {run : Run} {buffer : List ℕ} → Way r before calls run buffer → (call : Call) (next : Run) (later : List ℕ) →
-      year_in next later ≡ further (year_in run buffer) call → length later ≡ length buffer → Way r before (calls ++ call ∷ []) next later
-  way_next {calls} {run} {buffer} w call next later e kept =
-      let count = ap (λ (s : Year). s.count) e in
+next_asked : (xs : List (Kind × Bor (List ℕ))) (k : ℕ) (other : Kind × Bor (List ℕ)) → k < length xs → drop k (asked xs) ≡ call_in (get_or xs k other) ∷ drop (suc k) (asked xs)
+next_asked [] k other h = absurd (omega arith)
+next_asked (x ∷ xs) zero other h = refl
+next_asked (x ∷ xs) (suc k) other h = next_asked xs k other (omega arith)
+
+module _ {r : rules.Chain} {before : List ℕ} (xs : List (Kind × Bor (List ℕ))) {k : ℕ} {s : rules.Chain} {buffer : List ℕ} (u : Under r before (asked xs) k s buffer)
+    (other : Kind × Bor (List ℕ)) (more : k < length xs) (x : Result ℕ Refusal) (e : answer_from x ≡ call_answer s (call_in (get_or xs k other))) where
+  goes_on : onward (further (stage 0 k s buffer) (call_in (get_or xs k other))) (drop (suc k) (asked xs)) ≡ onward (stage 0 0 r before) (asked xs)
+  goes_on = ap (onward (stage 0 k s buffer)) (sym (next_asked xs k other more)) ∙ u.goes_on
+
+  -- it is refused, which ends the year
+  pub year_stops : (why : Refusal) → x ≡ Err why → stage (number_of why) k s buffer ≡ onward (stage 0 0 r before) (asked xs)
+  year_stops why told =
+      let stopped : onward (stage (number_of why) k s buffer) (drop (suc k) (asked xs)) ≡ stage (number_of why) k s buffer =
+      rw (number_is_suc why) (onward_stops _ k s buffer (drop (suc k) (asked xs))) in
+      sym stopped ∙ ap (λ (y : Year). onward y (drop (suc k) (asked xs))) (refused_stage k s buffer _ x e why told) ∙ goes_on
+
+  -- it is accepted, and the year goes on
+  pub year_goes : (f : ℕ) → x ≡ Ok f → (next : rules.Chain) → next ≡ after s (call_in (get_or xs k other)) → Under r before (asked xs) (k + 1) next (set buffer k f)
+  year_goes f told next left =
       record {
-        reached = e ∙ ap (λ (s : Year). further s call) w.reached ∙ sym (onward_more _ calls call);
-        few = rw length-append (omega (arith, count, further_count (year_in run buffer) call, w.few));
-        long = kept ∙ w.long;
+        goes_on = rw add-one (ap (λ (y : Year). onward y (drop (suc k) (asked xs))) (rw add-one at (taken_stage k s buffer _ x e f told next left)) ∙ goes_on);
+        long = simp length-set u.long;
       }
 
-  -- before the fourth call is made there is a place for one figure more
-  pub next_place : {calls : List Call} {run : Run} {buffer : List ℕ} → Way r before calls run buffer → year_places ≤ length before →
-      length calls < year_places → run.came.count < length buffer
-  next_place w room more = omega (arith, w.few, w.long, room, more)
+-- four calls were made, and none was refused
+pub all_made : {r : rules.Chain} {before q₁ q₂ q₃ ps : List ℕ} {k : ℕ} {s : rules.Chain} {buffer : List ℕ} → k ≡ 4 →
+    Under r before (four_calls q₁ q₂ q₃ ps) k s buffer → stage 0 4 s buffer ≡ onward (stage 0 0 r before) (four_calls q₁ q₂ q₃ ps)
+all_made e u = rw e at u.goes_on
 
 -- too few places: nothing is done
-pub no_room : (chain : Chain) (calls : List Call) (before : List ℕ) → length before < year_places → (run : Run) →
-    run ≡ run_with chain (Err Refusal.YearRoom) 0 → year_in run before ≡ year_of (record_of chain) calls before
+pub no_room : (r : rules.Chain) (calls : List Call) (before : List ℕ) → length before < year_places → stage 28 0 r before ≡ year_of r calls before
 unfolding room_refusal year_refusal year_figures year_after refuse ◌then◌
-no_room chain calls before short run made = rw (lt-ltb (length before) year_places short, made)
+no_room r calls before short = rw (lt-ltb (length before) year_places short)
 
 -- four calls
-pub way_ends : (r : rules.Chain) (q₁ q₂ q₃ ps before : List ℕ) → year_places ≤ length before → (run : Run) (buffer : List ℕ) →
-    Way r before (four_calls q₁ q₂ q₃ ps) run buffer → year_in run buffer ≡ year_of r (four_calls q₁ q₂ q₃ ps) before
+pub year_ends : (r : rules.Chain) (q₁ q₂ q₃ ps before : List ℕ) → year_places ≤ length before → (y : Year) →
+    y ≡ onward (stage 0 0 r before) (four_calls q₁ q₂ q₃ ps) → y ≡ year_of r (four_calls q₁ q₂ q₃ ps) before
 unfolding room_refusal year_refusal year_figures year_after refuse ◌then◌
-way_ends r q₁ q₂ q₃ ps before room run buffer w =
+year_ends r q₁ q₂ q₃ ps before room y reached =
     let calls = four_calls q₁ q₂ q₃ ps in
-    let e = w.reached ∙ onward_is calls 0 r before (omega arith) in
+    let e = reached ∙ onward_is calls 0 r before (omega arith) in
     let none_before : 0 + length (figures_of r calls) ≡ length (figures_of r calls) = omega arith in
     let left = sym (four_left r q₁ q₂ q₃ ps) in
     rw (le-ltb (length before) year_places room)

@@ -15,7 +15,7 @@ use Rattle.c_year.proofs.vougecress_year.Goals as goal
 pub returns-then-lent-lt-RECORD : goal.returns-then-lent-lt-RECORD
 returns-then-lent-lt-RECORD c =
     let calls = four_calls c.args.first.now c.args.second.now c.args.third.now c.args.last.now in
-    let e = c.year_of-run.ensures ∙ ap (λ (r : Chain). year_of r calls c.args.figures.now) c.held-chain.ensures in
+    let e = c.year_of-run.ensures ∙ ap (λ (r : Chain). year_of r calls c.args.figures.now) c.held.ensures in
     record {
       value = c.answered-answer.ensures ∙ ap year_answer e;
       lent_after = short_stays c.args.lent.now c.args.first.now c.args.second.now c.args.third.now c.args.last.now c.args.figures.now c.if-lent-lt-RECORD.true;
@@ -25,7 +25,7 @@ returns-then-lent-lt-RECORD c =
 pub returns : goal.returns
 returns c =
     let calls = four_calls c.args.first.now c.args.second.now c.args.third.now c.args.last.now in
-    let e = c.year_of-run.ensures ∙ ap (λ (r : Chain). year_of r calls c.args.figures.now) c.held-chain.ensures in
+    let e = c.year_of-run.ensures ∙ ap (λ (r : Chain). year_of r calls c.args.figures.now) c.held.ensures in
     let number = ap (λ (y : Year). y.refusal) c.answered-answer.ensures in
     let laid = c.lay.ensures ∙ ap (λ (k : ℕ). written k (record_list (record_of c.year_of-run.result.chain)) c.args.lent.now) number in
     record {

@@ -16,5 +16,5 @@ returns-then-lent-lt-RECORD c = rw (lt-ltb (length c.args.lent.now) record_place
 pub returns : goal.returns
 unfolding list_refusal list_answer call_answer refuse ◌then◌
 returns c = let call = Call.quarter c.args.relatives.now in
-    let told = c.quarter-answered.ensures.answer_value ∙ ap (λ (r : Chain). call_answer r call) c.load-held.ensures in
+    let told = c.quarter.ensures.answer_value ∙ ap (λ (r : Chain). call_answer r call) c.load.ensures in
     rw (le-ltb (length c.args.lent.now) record_places c.if-lent-lt-RECORD.false) (c.figure_of-2.ensures ∙ ap figure_from told)

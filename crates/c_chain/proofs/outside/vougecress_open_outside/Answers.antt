@@ -20,5 +20,5 @@ pub returns : goal.returns
 unfolding opened_number opened_list panel_answer refuse ◌then◌
 returns c = let p = with_domain c.args.domain c.args.sampled.now c.args.weights.now c.args.shares.now c.args.relatives.now in
     let long = le-ltb (length c.args.lent.now) record_places c.if-lent-lt-RECORD.false in
-    let told = opened_is c.open_outside-opened.result (panel_refusal p c.args.start) (panel_record p c.args.start) c.args.lent.now c.open_outside-opened.ensures in
+    let told = opened_is c.«open».result (panel_refusal p c.args.start) (panel_record p c.args.start) c.args.lent.now c.«open».ensures in
     record { value = rw long (c.lay_opened.ensures.value ∙ told.0); lent_after = rw long (c.lay_opened.ensures.lent_after ∙ told.1) }

@@ -21,5 +21,5 @@ unfolding opened_number opened_list open_answer refuse ◌then◌
 returns c = let n = open_refusal c.args.weights.now c.args.shares.now c.args.relatives.now c.args.start in
     let new = open_record (shared c.args.weights.now c.args.shares.now) c.args.relatives.now c.args.start in
     let long = le-ltb (length c.args.lent.now) record_places c.if-lent-lt-RECORD.false in
-    let told = opened_is c.open-opened.result n new c.args.lent.now c.open-opened.ensures in
+    let told = opened_is c.«open».result n new c.args.lent.now c.«open».ensures in
     record { value = rw long (c.lay_opened.ensures.value ∙ told.0); lent_after = rw long (c.lay_opened.ensures.lent_after ∙ told.1) }

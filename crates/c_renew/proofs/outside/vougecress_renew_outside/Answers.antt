@@ -23,6 +23,6 @@ unfolding renewed_number renewed_list renewal_answer refuse ◌then◌
 returns c = let p = with_domain c.args.domain c.args.sampled.now c.args.weights.now c.args.shares.now c.args.relatives.now in
     let r = record_in c.args.lent.now in
     let long = le-ltb (length c.args.lent.now) record_places c.if-lent-lt-RECORD.false in
-    let answer = c.renew_outside-opened.ensures ∙ ap (λ (r : Chain). renewal_answer r p) c.load-before.ensures in
-    let told = opened_is c.renew_outside-opened.result (renewal_refusal r p) (renewed_record r p) c.args.lent.now answer in
+    let answer = c.renew.ensures ∙ ap (λ (r : Chain). renewal_answer r p) c.load-before.ensures in
+    let told = opened_is c.renew.result (renewal_refusal r p) (renewed_record r p) c.args.lent.now answer in
     record { value = rw long (c.lay_opened.ensures.value ∙ told.0); lent_after = rw long (c.lay_opened.ensures.lent_after ∙ told.1) }

@@ -13,7 +13,7 @@ use Rattle.rules.specs.Chain.{open_input_refusal}
 use Rattle.rules.specs.Panel.{bad_outside, outside_input_refusal}
 use Rattle.rules.proofs.Chains.{openable}
 use Rattle.chain_share.specs.Outsideable.{Marked}
-use Rattle.chain_share.proofs.judge.Goals as goal
+use Rattle.chain_share.proofs.Outside.judge.Goals as goal
 
 -- with marks of the right length 9 to 13 and 29 decide
 marked : (domain : ℕ) (ms ws gs rs : List ℕ) (start : ℕ) → length ms ≡ length ws →
@@ -38,17 +38,17 @@ pub returns-then-marks-w : goal.returns-then-marks-w
 unfolding outside_input_refusal refuse ◌then◌
 returns-then-marks-w c = rw (ne_eqb _ _ c.if-marks-w.true)
 
-pub bad_outside-requires : goal.bad_outside-requires
-bad_outside-requires c = marked_at c.args.domain c.args.marks.now c.args.lists.now.weights.now c.args.lists.now.shares.now c.args.lists.now.relatives.now c.args.start c.if-marks-w.false (sym c.in_ok-judge_input.ensures)
+pub is_bad-requires : goal.is_bad-requires
+is_bad-requires c = marked_at c.args.self.now.domain c.args.self.now.marks.now c.args.lists.now.weights.now c.args.lists.now.shares.now c.args.lists.now.relatives.now c.args.start c.if-marks-w.false (sym c.in_ok-judge_input.ensures)
 
-pub returns-then-bad_outside : goal.returns-then-bad_outside
+pub returns-then-is_bad : goal.returns-then-is_bad
 unfolding refuse
-returns-then-bad_outside c = rw (last c.args.domain c.args.marks.now c.args.lists.now.weights.now c.args.lists.now.shares.now c.args.lists.now.relatives.now c.args.start c.if-marks-w.false (sym c.in_ok-judge_input.ensures), sym c.bad_outside.ensures ∙ c.if-bad_outside.true)
+returns-then-is_bad c = rw (last c.args.self.now.domain c.args.self.now.marks.now c.args.lists.now.weights.now c.args.lists.now.shares.now c.args.lists.now.relatives.now c.args.start c.if-marks-w.false (sym c.in_ok-judge_input.ensures), sym c.is_bad.ensures ∙ c.if-is_bad.true)
 
 pub returns-in_err-judge_input : goal.returns-in_err-judge_input
 returns-in_err-judge_input c = let p = err_from_is_err_and c.from_residual.result c.from_residual.ensures.1 in
-    rw (p.1, p.2) (refused c.args.domain _ _ c.args.lists.now.shares.now c.args.lists.now.relatives.now c.args.start _ c.if-marks-w.false c.in_err-judge_input.ensures)
+    rw (p.1, p.2) (refused c.args.self.now.domain _ _ c.args.lists.now.shares.now c.args.lists.now.relatives.now c.args.start _ c.if-marks-w.false c.in_err-judge_input.ensures)
 
 pub returns : goal.returns
 unfolding refuse
-returns c = rw (last c.args.domain c.args.marks.now c.args.lists.now.weights.now c.args.lists.now.shares.now c.args.lists.now.relatives.now c.args.start c.if-marks-w.false (sym c.in_ok-judge_input.ensures), sym c.bad_outside.ensures ∙ c.if-bad_outside.false)
+returns c = rw (last c.args.self.now.domain c.args.self.now.marks.now c.args.lists.now.weights.now c.args.lists.now.shares.now c.args.lists.now.relatives.now c.args.start c.if-marks-w.false (sym c.in_ok-judge_input.ensures), sym c.is_bad.ensures ∙ c.if-is_bad.false)

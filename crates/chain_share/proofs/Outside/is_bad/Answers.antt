@@ -1,4 +1,4 @@
--- `bad_outside` gives 29's test: nothing is asked where no unit is sampled, else each of its parts in turn.
+-- `is_bad` gives 29's test: nothing is asked where no unit is sampled, else each of its parts in turn.
 use native.Mathlib.Omega.{arith}
 use mathlib.Core.Path.{◌≡◌, refl, sym, ap, ◌∙◌}
 use mathlib.Core.Bool.{Bool, not}
@@ -14,7 +14,7 @@ use Rattle.chain_share.proofs.Bounds.{counted_size, counted_shares}
 use Rattle.chain_sampled.specs.declared.Tally.{Tally}
 use Rattle.chain_sampled.specs.Tally.{tally_of}
 use Rattle.chain_share.specs.Outsideable.{Marked}
-use Rattle.chain_share.proofs.bad_outside.Goals as goal
+use Rattle.chain_share.proofs.Outside.is_bad.Goals as goal
 
 if_some : (n : ℕ) (test : Bool) → (n ≡ 0 → ⊥) → if_sampled n test ≡ test
 if_some zero test some = absurd (some refl)
@@ -40,23 +40,23 @@ count-sampled-requires c = (c.requires.marks ∙ sym c.requires.shares, omega (a
 
 pub returns-then-sampled-eq0 : goal.returns-then-sampled-eq0
 unfolding bad_outside
-returns-then-sampled-eq0 c = rw (sym (size_at c.args.domain c.args.marks.now c.args.w.now c.args.g.now c.requires _ c.count-sampled.ensures) ∙ c.if-sampled-eq0.true)
+returns-then-sampled-eq0 c = rw (sym (size_at c.args.self.now.domain c.args.self.now.marks.now c.args.w.now c.args.g.now c.requires _ c.count-sampled.ensures) ∙ c.if-sampled-eq0.true)
 
 pub returns-then-domain-eq0 : goal.returns-then-domain-eq0
 unfolding ◌or◌
-returns-then-domain-eq0 c = rw (tested c.args.domain c.args.marks.now c.args.w.now c.args.g.now c.requires _ c.count-sampled.ensures c.if-sampled-eq0.false, eq-eqb _ 0 c.if-domain-eq0.true)
+returns-then-domain-eq0 c = rw (tested c.args.self.now.domain c.args.self.now.marks.now c.args.w.now c.args.g.now c.requires _ c.count-sampled.ensures c.if-sampled-eq0.false, eq-eqb _ 0 c.if-domain-eq0.true)
 
 pub returns-then-domain-gt-SHARE_SCALE : goal.returns-then-domain-gt-SHARE_SCALE
 unfolding ◌or◌
-returns-then-domain-gt-SHARE_SCALE c = rw (tested c.args.domain c.args.marks.now c.args.w.now c.args.g.now c.requires _ c.count-sampled.ensures c.if-sampled-eq0.false, ne_eqb _ 0 c.if-domain-eq0.false, lt-ltb share_scale c.args.domain c.if-domain-gt-SHARE_SCALE.true)
+returns-then-domain-gt-SHARE_SCALE c = rw (tested c.args.self.now.domain c.args.self.now.marks.now c.args.w.now c.args.g.now c.requires _ c.count-sampled.ensures c.if-sampled-eq0.false, ne_eqb _ 0 c.if-domain-eq0.false, lt-ltb share_scale c.args.self.now.domain c.if-domain-gt-SHARE_SCALE.true)
 
 pub returns-then-sampled-eq0-2 : goal.returns-then-sampled-eq0-2
 unfolding ◌or◌
 returns-then-sampled-eq0-2 c = rw (
-  tested c.args.domain c.args.marks.now c.args.w.now c.args.g.now c.requires _ c.count-sampled.ensures c.if-sampled-eq0.false,
+  tested c.args.self.now.domain c.args.self.now.marks.now c.args.w.now c.args.g.now c.requires _ c.count-sampled.ensures c.if-sampled-eq0.false,
   ne_eqb _ 0 c.if-domain-eq0.false,
   le-ltb _ _ c.if-domain-gt-SHARE_SCALE.false,
-  eq-eqb _ 0 (sym (shares_at c.args.domain c.args.marks.now c.args.w.now c.args.g.now c.requires _ c.count-sampled.ensures) ∙ c.if-sampled-eq0-2.true),
+  eq-eqb _ 0 (sym (shares_at c.args.self.now.domain c.args.self.now.marks.now c.args.w.now c.args.g.now c.requires _ c.count-sampled.ensures) ∙ c.if-sampled-eq0-2.true),
 )
 
 pub first-x-requires : goal.first-x-requires
@@ -68,9 +68,9 @@ any_other-requires c = c.requires.marks
 pub returns : goal.returns
 unfolding ◌or◌
 returns c = rw (
-  tested c.args.domain c.args.marks.now c.args.w.now c.args.g.now c.requires _ c.count-sampled.ensures c.if-sampled-eq0.false,
+  tested c.args.self.now.domain c.args.self.now.marks.now c.args.w.now c.args.g.now c.requires _ c.count-sampled.ensures c.if-sampled-eq0.false,
   ne_eqb _ 0 c.if-domain-eq0.false,
   le-ltb _ _ c.if-domain-gt-SHARE_SCALE.false,
-  ne_eqb _ 0 (λ e. c.if-sampled-eq0-2.false (shares_at c.args.domain c.args.marks.now c.args.w.now c.args.g.now c.requires _ c.count-sampled.ensures ∙ e)),
+  ne_eqb _ 0 (λ e. c.if-sampled-eq0-2.false (shares_at c.args.self.now.domain c.args.self.now.marks.now c.args.w.now c.args.g.now c.requires _ c.count-sampled.ensures ∙ e)),
 )
-    (c.any_other.ensures ∙ ap (λ (x : ℕ). any_of (λ w. not (eqb w x)) (of_sampled c.args.marks.now c.args.w.now)) c.first-x.ensures)
+    (c.any_other.ensures ∙ ap (λ (x : ℕ). any_of (λ w. not (eqb w x)) (of_sampled c.args.self.now.marks.now c.args.w.now)) c.first-x.ensures)

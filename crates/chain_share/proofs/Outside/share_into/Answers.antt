@@ -12,7 +12,7 @@ use Rattle.chain_share.specs.Outsideable.{Layable, Outsideable}
 use Rattle.chain_share.proofs.Bounds.{counted_size, counted_shares, Small, small, inner_small, shares_positive}
 use Rattle.chain_sampled.specs.declared.Tally.{Tally}
 use Rattle.chain_sampled.specs.Tally.{tally_of}
-use Rattle.chain_share.proofs.share_into.Goals as goal
+use Rattle.chain_share.proofs.Outside.share_into.Goals as goal
 
 module _ (domain : ℕ) (ms ws gs us : List ℕ) (o : Outsideable domain ms ws gs us) where
   small_at : Small domain ms ws
@@ -57,4 +57,4 @@ lay-requires c = layable _ _ _ _ _ c.requires _ _ (inner_at _ _ _ _ _ c.requires
 pub returns : goal.returns
 unfolding outside_shared
 returns c = c.lay.ensures
-    ∙ ap₂ (λ (i t : ℕ). each_unit (shared_unit i t) c.args.marks.now c.args.w.now c.args.g.now) (inner_at _ _ _ _ _ c.requires _ c.count-sampled.ensures _ _ c.first-x.ensures c.inner-whole.ensures) (shares_at _ _ _ _ _ c.requires _ c.count-sampled.ensures)
+    ∙ ap₂ (λ (i t : ℕ). each_unit (shared_unit i t) c.args.self.now.marks.now c.args.lists.now.weights.now c.args.lists.now.shares.now) (inner_at _ _ _ _ _ c.requires _ c.count-sampled.ensures _ _ c.first-x.ensures c.inner-whole.ensures) (shares_at _ _ _ _ _ c.requires _ c.count-sampled.ensures)
