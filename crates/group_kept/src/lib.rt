@@ -32,7 +32,8 @@ fn less(turnovers: &[u64], units: &[usize], rest: u64) -> u64
 }
 
 impl TakeAll<'_> {
-    // The enlarged group, and a mark for each unit: 1 in the group and 0 outside. Where all n places are kept nobody is sampled, though units remain outside.
+    // The enlarged group, and a mark for each unit, a byte as those that the C interface lends to take-all: 1 in the group and 0 outside. Where all n places are
+    // kept nobody is sampled, though units remain outside.
     pub fn find_enlarged(&self, marks: &mut [u8]) -> Group
         requires { over Enlargeable self.now × (length self.now.turnovers.now ≤ length marks.old) }
         ensures { over IsEnlarged self.now marks.new result }
