@@ -20,7 +20,7 @@ pub struct Drawn {
     pub rest: u64,
 }
 
-// The answer as C has it.
+// The answer as C has it. (Each kind of answer has a struct of its own in C, with other fields, so each is laid out by itself.)
 pub fn shown(answer: Result<draw::Drawn, Refusal>) -> Drawn
     ensures { result ≡ drawn_from (answer_from answer) }
 {
@@ -38,6 +38,7 @@ pub fn shown(answer: Result<draw::Drawn, Refusal>) -> Drawn
     }
 }
 
+// (The C interface has a name for each key: the two functions differ in the method alone.)
 #[unsafe(no_mangle)]
 pub extern "C" fn vougecress_draw(
     numbers: &[u32],

@@ -8,10 +8,12 @@ ghost use Rattle.rules.specs.Draw.{Method as KeyMethod, kept_draw_answer, kept_d
 ghost use Rattle.c_draw.specs.Answer.{drawn_from};
 
 use c_draw::Drawn;
+use draw::Design;
 use draw_key::Method;
 use frame::Frame;
 use group_keeping::Keeping;
 
+// (The C interface has a name for each key: the two functions differ in the method alone.)
 #[unsafe(no_mangle)]
 pub extern "C" fn vougecress_draw_kept(
     numbers: &[u32],
@@ -32,18 +34,22 @@ pub extern "C" fn vougecress_draw_kept(
     ensures weights_after { weights.new ≡ kept_draw_weights KeyMethod.pareto (frame numbers.now turnovers.now randoms.now) z start
         (keeping threshold first.now second.now) panel.old weights.old }
 {
-    let frame = Frame {
-        numbers,
-        turnovers,
-        randoms,
+    let design = Design {
+        method: Method::Pareto,
+        frame: Frame {
+            numbers,
+            turnovers,
+            randoms,
+        },
+        z,
+        start,
+        keeping: Keeping {
+            threshold,
+            first,
+            second,
+        },
     };
-    let keeping = Keeping {
-        threshold,
-        first,
-        second,
-    };
-    let answer = draw::draw_kept(Method::Pareto, &frame, z, start, &keeping, panel, weights);
-    c_draw::shown(answer)
+    c_draw::shown(draw::draw_kept(&design, panel, weights))
 }
 
 #[unsafe(no_mangle)]
@@ -66,24 +72,20 @@ pub extern "C" fn vougecress_draw_poisson_kept(
     ensures weights_after { weights.new ≡ kept_draw_weights KeyMethod.sequential_poisson (frame numbers.now turnovers.now randoms.now) z start
         (keeping threshold first.now second.now) panel.old weights.old }
 {
-    let frame = Frame {
-        numbers,
-        turnovers,
-        randoms,
-    };
-    let keeping = Keeping {
-        threshold,
-        first,
-        second,
-    };
-    let answer = draw::draw_kept(
-        Method::SequentialPoisson,
-        &frame,
+    let design = Design {
+        method: Method::SequentialPoisson,
+        frame: Frame {
+            numbers,
+            turnovers,
+            randoms,
+        },
         z,
         start,
-        &keeping,
-        panel,
-        weights,
-    );
-    c_draw::shown(answer)
+        keeping: Keeping {
+            threshold,
+            first,
+            second,
+        },
+    };
+    c_draw::shown(draw::draw_kept(&design, panel, weights))
 }

@@ -19,7 +19,7 @@ pub struct Taken {
     pub rest: u64,
 }
 
-// The answer as C has it.
+// The answer as C has it. (Each kind of answer has a struct of its own in C, with other fields, so each is laid out by itself.)
 pub fn shown(answer: Result<Group, Refusal>) -> Taken
     ensures { result ≡ taken_from (answer_from answer) }
 {

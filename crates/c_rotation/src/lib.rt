@@ -23,7 +23,7 @@ pub struct Rotated {
     pub count: u64,
 }
 
-// The answer as C has it.
+// The answer as C has it. (Each kind of answer has a struct of its own in C, with other fields, so each is laid out by itself.)
 pub fn shown(answer: Result<rotation::Rotated, Refusal>) -> Rotated
     ensures { result ≡ rotated_from (answer_from answer) }
 {
@@ -43,6 +43,7 @@ pub fn shown(answer: Result<rotation::Rotated, Refusal>) -> Rotated
     }
 }
 
+// (The C interface has a name for each key: the two functions differ in the method alone.)
 #[unsafe(no_mangle)]
 pub extern "C" fn vougecress_rotate(
     numbers: &[u32],

@@ -13,7 +13,9 @@ use draw_key::Method;
 use frame::Frame;
 use group_keeping::Keeping;
 use rotation_births::{Candidates, Previous};
+use rotation_judge::Rotation;
 
+// (The C interface has a name for each key: the two functions differ in the method alone.)
 #[unsafe(no_mangle)]
 pub extern "C" fn vougecress_rotate_kept(
     numbers: &[u32],
@@ -36,36 +38,32 @@ pub extern "C" fn vougecress_rotate_kept(
     ensures leavers_after { leavers.new ≡ kept_rotation_leavers KeyMethod.pareto (frame numbers.now turnovers.now randoms.now) z old panel.now
         fraction (born size rest births.now) (keeping threshold first.now second.now) leavers.old }
 {
-    let frame = Frame {
-        numbers,
-        turnovers,
-        randoms,
-    };
     let previous = Previous {
         start: old,
         n: size,
         rest,
     };
-    let candidates = Candidates {
-        panel,
-        births,
-        previous,
-    };
-    let keeping = Keeping {
-        threshold,
-        first,
-        second,
-    };
-    let answer = rotation::rotate_kept(
-        Method::Pareto,
-        &frame,
+    let asked = Rotation {
+        method: Method::Pareto,
+        frame: Frame {
+            numbers,
+            turnovers,
+            randoms,
+        },
         z,
-        &candidates,
+        candidates: Candidates {
+            panel,
+            births,
+            previous,
+        },
         fraction,
-        &keeping,
-        leavers,
-    );
-    c_rotation::shown(answer)
+        keeping: Keeping {
+            threshold,
+            first,
+            second,
+        },
+    };
+    c_rotation::shown(rotation::rotate_kept(&asked, leavers))
 }
 
 #[unsafe(no_mangle)]
@@ -90,34 +88,30 @@ pub extern "C" fn vougecress_rotate_poisson_kept(
     ensures leavers_after { leavers.new ≡ kept_rotation_leavers KeyMethod.sequential_poisson (frame numbers.now turnovers.now randoms.now) z old panel.now
         fraction (born size rest births.now) (keeping threshold first.now second.now) leavers.old }
 {
-    let frame = Frame {
-        numbers,
-        turnovers,
-        randoms,
-    };
     let previous = Previous {
         start: old,
         n: size,
         rest,
     };
-    let candidates = Candidates {
-        panel,
-        births,
-        previous,
-    };
-    let keeping = Keeping {
-        threshold,
-        first,
-        second,
-    };
-    let answer = rotation::rotate_kept(
-        Method::SequentialPoisson,
-        &frame,
+    let asked = Rotation {
+        method: Method::SequentialPoisson,
+        frame: Frame {
+            numbers,
+            turnovers,
+            randoms,
+        },
         z,
-        &candidates,
+        candidates: Candidates {
+            panel,
+            births,
+            previous,
+        },
         fraction,
-        &keeping,
-        leavers,
-    );
-    c_rotation::shown(answer)
+        keeping: Keeping {
+            threshold,
+            first,
+            second,
+        },
+    };
+    c_rotation::shown(rotation::rotate_kept(&asked, leavers))
 }

@@ -6,6 +6,7 @@ ghost use Rattle.rules.specs.Kept.{keeping, take_all_units_answer, take_all_unit
 ghost use Rattle.c_group.specs.Answer.{taken_from};
 
 use c_group::Taken;
+use group_kept::TakeAll;
 use group_keeping::Keeping;
 
 #[unsafe(no_mangle)]
@@ -28,6 +29,12 @@ pub extern "C" fn vougecress_take_all_units(
         first,
         second,
     };
-    let answer = group_units::take_all_units(numbers, turnovers, z, &keeping, units);
+    let asked = TakeAll {
+        numbers,
+        turnovers,
+        z,
+        keeping,
+    };
+    let answer = group_units::take_all_units(&asked, units);
     c_group::shown(answer)
 }

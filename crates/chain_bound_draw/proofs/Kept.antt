@@ -21,11 +21,10 @@ use Rattle.chain_open_input.specs.declared.Lists.{Lists}
 use Rattle.chain_bound_code.specs.Calls.{OpenMade, CallsMade}
 use Rattle.draw_key.specs.declared.Method.{Method}
 use Rattle.draw_key.specs.Methods.{method_of}
-use Rattle.frame.specs.declared.Frame.{Frame}
 use Rattle.frame.specs.Frame.{frame_of}
-use Rattle.group_keeping.specs.declared.Keeping.{Keeping}
 use Rattle.group_keeping.specs.Keeping.{keeping_of}
 use Rattle.refusals.specs.declared.Refusal.{Refusal}
+use Rattle.draw.specs.declared.Design.{Design}
 use Rattle.draw.specs.declared.Drawn.{Drawn}
 use Rattle.draw.specs.Answer.{answer_from}
 use Rattle.draw.proofs.Accepted.{kept_accepted}
@@ -33,13 +32,22 @@ use Rattle.draw.proofs.Intended.{kept_weights_lem}
 use Rattle.chain_bound_draw.specs.Kept.{KeptMade, kept_weights}
 use Rattle.chain_bound_draw.proofs.Demand3.{Covered, demand3_handed}
 
-module _ (method : Method) (lent : Bor Frame) (z start : ℕ) (lists : Bor Keeping) (numbers weights : MutBor (List ℕ)) (r : Result Drawn Refusal) (ws : List ℕ)
-    (made : KeptMade method lent z start lists numbers weights r ws) (d : Drawn) (drawn : r ≡ Ok d) where
+module _ (design : Bor Design) (numbers weights : MutBor (List ℕ)) (r : Result Drawn Refusal) (ws : List ℕ) (made : KeptMade design numbers weights r ws)
+    (d : Drawn) (drawn : r ≡ Ok d) where
+  abbrev method : Method
+  method = design.now.method
+
+  abbrev z : ℕ
+  z = design.now.z
+
+  abbrev start : ℕ
+  start = design.now.start
+
   abbrev f : rules.Frame
-  f = frame_of lent.now
+  f = frame_of design.now.frame
 
   abbrev p : kept.Keeping
-  p = keeping_of lists.now
+  p = keeping_of design.now.keeping
 
   abbrev panel : List ℕ
   panel = kept_weights method f.numbers f.turnovers f.randoms z start p.threshold p.first p.second

@@ -8,19 +8,18 @@ use Rattle.rules.specs.Kept.{keeping, enlarged_group}
 use Rattle.rules.specs.Draw.{panel_weights}
 use Rattle.draw_key.specs.declared.Method.{Method}
 use Rattle.draw_key.specs.Methods.{method_of}
-use Rattle.frame.specs.declared.Frame.{Frame}
-use Rattle.group_keeping.specs.declared.Keeping.{Keeping}
 use Rattle.refusals.specs.declared.Refusal.{Refusal}
+use Rattle.draw.specs.declared.Design.{Design}
 use Rattle.draw.specs.declared.Drawn.{Drawn}
 use Rattle.draw.specs.contracts.draw_kept as kept-contract
 use Rattle.draw.proofs.draw_kept.Reads as kept-reads
 
--- `draw_kept` with a threshold and two lists returned r and left ws in the buffer of the weights
-pub record KeptMade (method : Method) (f : Bor Frame) (z start : ℕ) (p : Bor Keeping) (numbers weights : MutBor (List ℕ)) (r : Result Drawn Refusal) (ws : List ℕ) : Type 0 where
-  pub lifetimes : Lfts 6
+-- `draw_kept` of a design, which has the method, the frame, z, the start, a threshold and two lists, returned r and left ws in the buffer of the weights
+pub record KeptMade (design : Bor Design) (numbers weights : MutBor (List ℕ)) (r : Result Drawn Refusal) (ws : List ℕ) : Type 0 where
+  pub lifetimes : Lfts 4
   pub end : AtExit kept-contract.ended lifetimes
-  pub leaves : end.1.1.1.1.1.1.0.now ≡ ws
-  pub learnt : kept-reads.Learnt lifetimes (method, (f, (z, (start, (p, (numbers, (weights, tt))))))) r end
+  pub leaves : end.1.1.0.now ≡ ws
+  pub learnt : kept-reads.Learnt lifetimes (design, (numbers, (weights, tt))) r end
 
 -- the W of the panel, by the enlarged group
 abbrev pub kept_weights : Method → List ℕ → List ℕ → List ℕ → ℕ → ℕ → ℕ → List ℕ → List ℕ → List ℕ

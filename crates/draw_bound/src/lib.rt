@@ -34,10 +34,7 @@ pub fn is_near(key: Fraction, reach: u64) -> bool
     requires { 0 < key.num → reach * key.den ≤ 10 * (random_range * most_turnover) }
     ensures { result ≡ leb key.num (reach * key.den) }
 {
-    if key.num == 0 {
-        return true;
-    }
-    key.num <= reach * key.den
+    key.num == 0 || key.num <= reach * key.den
 }
 
 // Key x is below key y. Keys of the same terms, as of units of one turnover and one random number, are not divided.
@@ -103,8 +100,5 @@ pub fn is_within(keyed: &Keyed, b: Bound, i: usize) -> bool
 {
     let reach = reach_of(keyed.setting.n);
     let key = keyed.key(i);
-    if !is_near(key, reach) {
-        return false;
-    }
-    is_passed(b, key.num * b.scale / key.den, i)
+    is_near(key, reach) && is_passed(b, key.num * b.scale / key.den, i)
 }

@@ -35,7 +35,7 @@ pub struct Permanent(pub u32);
 #[derive(Drop)]
 pub struct Shifted(pub u32);
 
-// "plus 1,000,000 if R < s": what is added. A library method (checked_sub, rem_euclid) would say the sentence no plainer.
+// "plus 1,000,000 if R < s": what is added. (A function of its own: chosen inside the sum it becomes a branch in a pass over keys, which takes longer.)
 fn added(random: u32, start: u32) -> u32
     ensures { result ≡ cond (ltb random start) random_range 0 }
 {

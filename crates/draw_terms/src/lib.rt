@@ -28,16 +28,7 @@ fn beyond(terms: Fraction, whole: u64, n: u64) -> bool
     requires { Narrow n terms }
     ensures { result ≡ true → whole < terms.num / terms.den }
 {
-    if ROOM * n <= whole {
-        return false;
-    }
-    if terms.num == 0 {
-        return false;
-    }
-    if terms.num < (whole + 1) * terms.den {
-        return false;
-    }
-    true
+    whole < ROOM * n && terms.num != 0 && (whole + 1) * terms.den <= terms.num
 }
 
 impl Key {
@@ -69,10 +60,7 @@ impl Key {
         requires { Narrow n terms }
         ensures { result ≡ true → fraction_below terms.num terms.den self.terms.num self.terms.den ≡ false }
     {
-        if self.terms.num <= terms.num && terms.den <= self.terms.den {
-            return true;
-        }
-        beyond(terms, self.whole, n)
+        (self.terms.num <= terms.num && terms.den <= self.terms.den) || beyond(terms, self.whole, n)
     }
 
     // This key is below key b. Keys of the same terms are equal: no remainder is divided.

@@ -27,19 +27,6 @@ pub fn bad_count(turnovers: &[u64]) -> bool
     turnovers.is_empty() || MOST_FRAME < turnovers.len()
 }
 
-// "frame lists unequal, empty or over 16,384"
-pub fn bad_lists(frame: &Frame) -> bool
-    ensures { result ≡ bad_lists (frame_of frame.now) }
-{
-    if frame.numbers.len() != frame.turnovers.len() {
-        return true;
-    }
-    if frame.randoms.len() != frame.turnovers.len() {
-        return true;
-    }
-    bad_count(frame.turnovers)
-}
-
 // "strictly rising". `is_sorted_by` would be plainer, but a pass that may stop in the middle takes four times as long.
 pub fn rising(numbers: &[u32]) -> bool
     ensures { result ≡ rising numbers.now }
@@ -75,36 +62,38 @@ pub fn bad_randoms(randoms: &[u32]) -> bool
 pub fn bad_size(turnovers: &[u64], z: usize) -> bool
     ensures { result ≡ bad_size turnovers.now z }
 {
-    if z == 0 {
-        return true;
-    }
-    if MOST_PANEL < z {
-        return true;
-    }
-    turnovers.len() < z
+    z == 0 || MOST_PANEL < z || turnovers.len() < z
 }
 
-// Refusals 1 to 5, which draw and rotation share: the lowest that applies.
-pub fn judge(frame: &Frame, z: usize, start: u32) -> Result<(), Refusal>
-    ensures { refusal_of result ≡ frame_refusal (frame_of frame.now) z start }
-{
-    if bad_lists(frame) {
-        return Err(Refusal::FrameLists);
+impl Frame<'_> {
+    // "frame lists unequal, empty or over 16,384"
+    pub fn bad_lists(&self) -> bool
+        ensures { result ≡ bad_lists (frame_of self.now) }
+    {
+        self.numbers.len() != self.turnovers.len()
+            || self.randoms.len() != self.turnovers.len()
+            || bad_count(self.turnovers)
     }
-    if !rising(frame.numbers) {
-        return Err(Refusal::UnitNumbers);
+
+    // Refusals 1 to 5, which draw and rotation share: the lowest that applies.
+    pub fn judge(&self, z: usize, start: u32) -> Result<(), Refusal>
+        ensures { refusal_of result ≡ frame_refusal (frame_of self.now) z start }
+    {
+        if self.bad_lists() {
+            return Err(Refusal::FrameLists);
+        }
+        if !rising(self.numbers) {
+            return Err(Refusal::UnitNumbers);
+        }
+        if bad_turnovers(self.turnovers) {
+            return Err(Refusal::Turnovers);
+        }
+        if bad_randoms(self.randoms) || RANDOM_RANGE <= start {
+            return Err(Refusal::RandomNumbers);
+        }
+        if bad_size(self.turnovers, z) {
+            return Err(Refusal::PanelSize);
+        }
+        Ok(())
     }
-    if bad_turnovers(frame.turnovers) {
-        return Err(Refusal::Turnovers);
-    }
-    if bad_randoms(frame.randoms) {
-        return Err(Refusal::RandomNumbers);
-    }
-    if RANDOM_RANGE <= start {
-        return Err(Refusal::RandomNumbers);
-    }
-    if bad_size(frame.turnovers, z) {
-        return Err(Refusal::PanelSize);
-    }
-    Ok(())
 }

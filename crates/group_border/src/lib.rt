@@ -33,10 +33,7 @@ impl Border<'_> {
         requires { i < length self.now.turnovers.now }
         ensures { result ≡ eligible_in self.now i }
     {
-        if self.marks[i] == 1 {
-            return false;
-        }
-        self.is_near(i)
+        self.marks[i] != 1 && self.is_near(i)
     }
 
     // Lists the candidates that stand in `list` and not in `skip` behind the first `count` places, and gives the number of all.

@@ -1,2 +1,3 @@
 pub mod Reckoned
 pub mod Kept
+pub mod TakeAll

@@ -8,43 +8,34 @@ ghost use Rattle.rules.specs.Selection.{count, listed};
 ghost use Rattle.rules.specs.Kept.{take_all_units_refusal, take_all_units_answer, take_all_units};
 ghost use Rattle.refusals.specs.Number.{refusal_of};
 ghost use Rattle.group.specs.Group.{marked};
-ghost use Rattle.group_keeping.specs.Keeping.{keeping_of};
+ghost use Rattle.group_kept.specs.TakeAll.{over};
 ghost use Rattle.group_entry.specs.Answer.{answer_from};
 
 use group::Group;
-use group_keeping::Keeping;
+use group_kept::TakeAll;
 use limits::MOST_FRAME;
 use refusals::Refusal;
 
-// Refusals 1, 2, 3, 5, 6 and 30: the first that applies.
-fn judge(
-    numbers: &[u32],
-    turnovers: &[u64],
-    z: usize,
-    keeping: &Keeping,
-    units: &[u32],
-) -> Result<(), Refusal>
-    ensures { refusal_of result ≡ take_all_units_refusal numbers.now turnovers.now z (keeping_of keeping.now) units.now }
+// Refusals 1, 2, 3, 5, 6 and 30: the first that applies. They are no frame's: there are no random numbers and no start.
+fn judge(asked: &TakeAll, units: &[u32]) -> Result<(), Refusal>
+    ensures { refusal_of result ≡ over take_all_units_refusal asked.now units.now }
 {
-    if numbers.len() != turnovers.len() {
+    if asked.numbers.len() != asked.turnovers.len() || frame::bad_count(asked.turnovers) {
         return Err(Refusal::FrameLists);
     }
-    if frame::bad_count(turnovers) {
-        return Err(Refusal::FrameLists);
-    }
-    if !frame::rising(numbers) {
+    if !frame::rising(asked.numbers) {
         return Err(Refusal::UnitNumbers);
     }
-    if frame::bad_turnovers(turnovers) {
+    if frame::bad_turnovers(asked.turnovers) {
         return Err(Refusal::Turnovers);
     }
-    if frame::bad_size(turnovers, z) {
+    if frame::bad_size(asked.turnovers, asked.z) {
         return Err(Refusal::PanelSize);
     }
-    if units.len() < z {
+    if units.len() < asked.z {
         return Err(Refusal::ResultBuffer);
     }
-    if group_keeping::bad_keeping(keeping) {
+    if group_keeping::bad_keeping(&asked.keeping) {
         return Err(Refusal::PreviousLists);
     }
     Ok(())
@@ -65,19 +56,13 @@ fn write_marked(numbers: &[u32], marks: &[u8], units: &mut [u32])
 }
 
 // The group of a frame at panel size z: answers how many units it has, n and X, and writes its unit numbers, rising, to the front of the lent buffer.
-pub fn take_all_units(
-    numbers: &[u32],
-    turnovers: &[u64],
-    z: usize,
-    keeping: &Keeping,
-    units: &mut [u32],
-) -> Result<Group, Refusal>
-    ensures result_value { answer_from result ≡ take_all_units_answer numbers.now turnovers.now z (keeping_of keeping.now) units.old }
-    ensures units_after { units.new ≡ take_all_units numbers.now turnovers.now z (keeping_of keeping.now) units.old }
+pub fn take_all_units(asked: &TakeAll, units: &mut [u32]) -> Result<Group, Refusal>
+    ensures result_value { answer_from result ≡ over take_all_units_answer asked.now units.old }
+    ensures units_after { units.new ≡ over take_all_units asked.now units.old }
 {
-    judge(numbers, turnovers, z, keeping, units)?;
+    judge(asked, units)?;
     let mut marks = [0u8; MOST_FRAME];
-    let g = group_kept::find_enlarged(numbers, turnovers, z, keeping, &mut marks);
-    write_marked(numbers, &marks, units);
+    let g = asked.find_enlarged(&mut marks);
+    write_marked(asked.numbers, &marks, units);
     Ok(g)
 }

@@ -5,22 +5,22 @@
 
 ghost use Rattle.std.specs.Prelude.{◌≡◌, ◌≤◌, length};
 ghost use Rattle.rules.specs.Limits.{most_frame, fraction_scale};
-ghost use Rattle.rules.specs.Refusals.{◌then◌};
-ghost use Rattle.rules.specs.Draw.{frame_refusal};
-ghost use Rattle.rules.specs.Rotation.{required, rotation_answer_by, rotation_leavers_by, rotation_answer, rotation_leavers, kept_lists_refusal, kept_rotation_answer, kept_rotation_leavers};
+ghost use Rattle.rules.specs.Rotation.{required, rotation_answer_by, rotation_leavers_by, rotation_answer, rotation_leavers, kept_rotation_answer, kept_rotation_leavers};
 ghost use Rattle.frame.specs.Frame.{frame_of};
-ghost use Rattle.group_keeping.specs.Keeping.{keeping_of};
 ghost use Rattle.draw_key.specs.Methods.{method_of};
 ghost use Rattle.rotation_births.specs.Candidates.{births_of};
+ghost use Rattle.rotation_judge.specs.Rotation.{over, early_refusal};
 ghost use Rattle.rotation.specs.Answer.{answer_from};
 ghost use Rattle.rotation.specs.Left.{Left};
 
 use draw_key::{Keyed, Method, Setting};
 use frame::Frame;
 use group_keeping::Keeping;
-use limits::{FRACTION_SCALE, MOST_FRAME, THRESHOLD_SCALE};
+use group_kept::TakeAll;
+use limits::{FRACTION_SCALE, MOST_FRAME};
 use refusals::Refusal;
 use rotation_births::Candidates;
+use rotation_judge::Rotation;
 use rotation_step::Search;
 
 // What a rotation answers: the step, the new start and the count of the leavers.
@@ -55,36 +55,32 @@ fn leave(numbers: &[u32], search: &Search, need: usize, leavers: &mut [u32]) -> 
 }
 
 // Rotates what refusals 1 to 6, 30, 7, 25 and 26 let pass, from the old start on.
-fn turn(
-    method: Method,
-    frame: &Frame,
-    z: usize,
-    candidates: &Candidates,
-    fraction: u32,
-    keeping: &Keeping,
-    leavers: &mut [u32],
-) -> Result<Rotated, Refusal>
-    requires { (frame_refusal (frame_of frame.now) z candidates.now.previous.start
-        then kept_lists_refusal frame.now.numbers.now candidates.now.panel.now fraction (births_of candidates.now)
-        (keeping_of keeping.now) leavers.old) ≡ 0 }
-    ensures result_value { answer_from result ≡ kept_rotation_answer (method_of method) (frame_of frame.now) z candidates.now.previous.start
-        candidates.now.panel.now fraction (births_of candidates.now) (keeping_of keeping.now) leavers.old }
-    ensures leavers_after { leavers.new ≡ kept_rotation_leavers (method_of method) (frame_of frame.now) z candidates.now.previous.start
-        candidates.now.panel.now fraction (births_of candidates.now) (keeping_of keeping.now) leavers.old }
+fn turn(asked: &Rotation, leavers: &mut [u32]) -> Result<Rotated, Refusal>
+    requires { early_refusal asked.now leavers.old ≡ 0 }
+    ensures result_value { answer_from result ≡ over kept_rotation_answer asked.now leavers.old }
+    ensures leavers_after { leavers.new ≡ over kept_rotation_leavers asked.now leavers.old }
 {
+    let frame = asked.frame;
+    let method = asked.method;
+    let take_all = TakeAll {
+        numbers: frame.numbers,
+        turnovers: frame.turnovers,
+        z: asked.z,
+        keeping: asked.keeping,
+    };
     let mut marks = [0u8; MOST_FRAME];
-    let g = group_kept::find_enlarged(frame.numbers, frame.turnovers, z, keeping, &mut marks);
+    let g = take_all.find_enlarged(&mut marks);
     let mut gaps = [0u64; MOST_FRAME];
     draw_gaps::fill(frame.turnovers, &marks, method, g.n, g.rest, &mut gaps);
     let mut places = [0usize; MOST_FRAME];
-    let many = rotation_members::members(frame, &marks, candidates, &mut places);
+    let many = rotation_members::members(&frame, &marks, &asked.candidates, &mut places);
     let keyed = Keyed {
         turnovers: frame.turnovers,
         randoms: frame.randoms,
         gaps: &gaps,
         setting: Setting {
             method,
-            start: candidates.previous.start,
+            start: asked.candidates.previous.start,
             n: g.n,
             rest: g.rest,
         },
@@ -92,9 +88,9 @@ fn turn(
     let search = Search {
         keyed,
         members: &places[..many],
-        z,
+        z: asked.z,
     };
-    match leave(frame.numbers, &search, required(fraction, many), leavers) {
+    match leave(frame.numbers, &search, required(asked.fraction, many), leavers) {
         Some(rotated) => Ok(rotated),
         None => Err(Refusal::NoStep),
     }
@@ -103,22 +99,12 @@ fn turn(
 // Rotation by the keys of a method, with the group that a threshold and the take-all lists of up to two previous draws enlarge. Answers the smallest step,
 // the new start and the count of the leavers, whose unit numbers are written to the front of the buffer, by falling turnover, equal turnovers by lower
 // number; or the first refusal that applies, and then the buffer is as it was. With no births the members are the old panel's alone.
-pub fn rotate_kept(
-    method: Method,
-    frame: &Frame,
-    z: usize,
-    candidates: &Candidates,
-    fraction: u32,
-    keeping: &Keeping,
-    leavers: &mut [u32],
-) -> Result<Rotated, Refusal>
-    ensures result_value { answer_from result ≡ kept_rotation_answer (method_of method) (frame_of frame.now) z candidates.now.previous.start
-        candidates.now.panel.now fraction (births_of candidates.now) (keeping_of keeping.now) leavers.old }
-    ensures leavers_after { leavers.new ≡ kept_rotation_leavers (method_of method) (frame_of frame.now) z candidates.now.previous.start
-        candidates.now.panel.now fraction (births_of candidates.now) (keeping_of keeping.now) leavers.old }
+pub fn rotate_kept(asked: &Rotation, leavers: &mut [u32]) -> Result<Rotated, Refusal>
+    ensures result_value { answer_from result ≡ over kept_rotation_answer asked.now leavers.old }
+    ensures leavers_after { leavers.new ≡ over kept_rotation_leavers asked.now leavers.old }
 {
-    rotation_judge::judge(frame, z, candidates, fraction, keeping, leavers)?;
-    turn(method, frame, z, candidates, fraction, keeping, leavers)
+    asked.judge(leavers)?;
+    turn(asked, leavers)
 }
 
 // Rotation by the keys of a method with no previous lists: the group is the base search's.
@@ -135,12 +121,15 @@ pub fn rotate_by(
     ensures leavers_after { leavers.new ≡ rotation_leavers_by (method_of method) (frame_of frame.now) z candidates.now.previous.start
         candidates.now.panel.now fraction (births_of candidates.now) leavers.old }
 {
-    let none = Keeping {
-        threshold: THRESHOLD_SCALE,
-        first: &[],
-        second: &[],
+    let asked = Rotation {
+        method,
+        frame: *frame,
+        z,
+        candidates: *candidates,
+        fraction,
+        keeping: Keeping::none(),
     };
-    rotate_kept(method, frame, z, candidates, fraction, &none, leavers)
+    rotate_kept(&asked, leavers)
 }
 
 // Rotation by Pareto keys.

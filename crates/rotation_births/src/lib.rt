@@ -46,16 +46,7 @@ impl Previous {
     pub fn is_bad(self) -> bool
         ensures { result ≡ bad_previous self.n self.rest }
     {
-        if MOST_PANEL < self.n {
-            return true;
-        }
-        if MOST_TURNOVER < self.rest {
-            return true;
-        }
-        if self.rest == 0 {
-            return self.n != 0;
-        }
-        false
+        MOST_PANEL < self.n || MOST_TURNOVER < self.rest || (self.rest == 0 && self.n != 0)
     }
 }
 
@@ -79,11 +70,5 @@ pub fn bad_births(numbers: &[u32], births: &[u32]) -> bool
     requires { rising numbers.now ≡ true }
     ensures { result ≡ bad_births numbers.now births.now }
 {
-    if MOST_FRAME < births.len() {
-        return true;
-    }
-    if !frame::rising(births) {
-        return true;
-    }
-    outside(numbers, births)
+    MOST_FRAME < births.len() || !frame::rising(births) || outside(numbers, births)
 }

@@ -26,16 +26,7 @@ fn is_member(
     requires { Judgeable frame.now.turnovers.now frame.now.randoms.now marks.now previous × (i < length frame.now.turnovers.now) }
     ensures { result ≡ member_of frame.now.turnovers.now frame.now.randoms.now marks.now previous i old birth }
 {
-    if marks[i] == 1 {
-        return false;
-    }
-    if old {
-        return true;
-    }
-    if birth {
-        return previous.joins(frame.randoms[i], frame.turnovers[i]);
-    }
-    false
+    marks[i] != 1 && (old || (birth && previous.joins(frame.randoms[i], frame.turnovers[i])))
 }
 
 // Lists the members' places, rising, in the front of `places`, and gives their number. Frame, old panel and births rise, so one pass goes through the three

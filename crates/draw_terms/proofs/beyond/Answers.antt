@@ -4,6 +4,6 @@ use native.Mathlib.Omega.{arith}
 use Rattle.draw_terms.proofs.Terms.{product_low}
 use Rattle.draw_terms.proofs.beyond.Goals as goal
 
-pub overflow_mul-whole : goal.overflow_mul-whole
-overflow_mul-whole c = let low = product_low c.args.whole c.args.n c.args.terms.den (omega (arith, c.if-n-whole.false)) in
-    omega (arith, low (c.requires.product_low (pos_of_ne-zero c.if-terms-eq0.false)))
+pub overflow_mul-result : goal.overflow_mul-result
+overflow_mul-result c = let low = product_low c.args.whole c.args.n c.args.terms.den (omega (arith, c.if-terms-ne0.true.0)) in
+    omega (arith, low (c.requires.product_low (pos_of_ne-zero c.if-terms-ne0.true.1)))

@@ -8,6 +8,6 @@ pub returns-then-list-gt-MOST_PANEL : goal.returns-then-list-gt-MOST_PANEL
 unfolding bad_list ◌or◌
 returns-then-list-gt-MOST_PANEL c = rw (lt-ltb _ _ c.if-list-gt-MOST_PANEL.true)
 
-pub returns : goal.returns
+pub returns-else-list-gt-MOST_PANEL : goal.returns-else-list-gt-MOST_PANEL
 unfolding bad_list ◌or◌
-returns c = rw (le-ltb _ _ c.if-list-gt-MOST_PANEL.false, c.rising.ensures)
+returns-else-list-gt-MOST_PANEL c = rw (le-ltb _ _ c.if-list-gt-MOST_PANEL.false, c.rising.ensures)

@@ -13,6 +13,7 @@ use Rattle.rules.specs.Lists.{rising}
 use Rattle.rules.specs.Kept.{Keeping, keeping_refusal, take_all_units_refusal}
 use Rattle.group_keeping.specs.Keeping.{keeping_of}
 use Rattle.group_units.proofs.judge.Goals as goal
+use Rattle.group_units.proofs.judge.Goals.{then-asked-via-then-asked, then-asked-via-else-asked+then-bad_count}
 
 module _ (ns ts : List ℕ) (z : ℕ) (p : Keeping) (units : List ℕ) (e1 : length ns ≡ length ts) (e2 : bad_count ts ≡ false) where
   -- where 1 lets pass, the others decide
@@ -29,34 +30,46 @@ module _ (ns ts : List ℕ) (z : ℕ) (p : Keeping) (units : List ℕ) (e1 : len
   unfolding refuse ◌then◌
   past_size e3 e4 e5 = rw (past_lists, e3, e4, e5)
 
-pub returns-then-numbers-turnovers : goal.returns-then-numbers-turnovers
+pub returns-then-asked : goal.returns-then-asked
 unfolding take_all_units_refusal refuse ◌then◌ ◌or◌
-returns-then-numbers-turnovers c = rw (ne_eqb _ _ c.if-numbers-turnovers.true)
-
-pub returns-then-bad_count : goal.returns-then-bad_count
-unfolding take_all_units_refusal refuse ◌then◌ ◌or◌
-returns-then-bad_count c = rw (eq-eqb _ _ c.if-numbers-turnovers.false, ← c.bad_count.ensures, c.if-bad_count.true)
+returns-then-asked c =
+    elim c.then-asked.branch [
+      | then-asked-via-then-asked w ↦ rw (ne_eqb _ _ w.if-asked.true)
+      | then-asked-via-else-asked+then-bad_count w ↦ rw (eq-eqb _ _ w.if-asked.false, ← w.bad_count.ensures, w.if-bad_count.true)
+    ]
 
 pub returns-then-not-rising : goal.returns-then-not-rising
 unfolding refuse ◌then◌
-returns-then-not-rising c = rw (past_lists c.args.numbers.now c.args.turnovers.now c.args.z (keeping_of c.args.keeping.now) c.args.units.now c.if-numbers-turnovers.false (sym c.bad_count.ensures ∙ c.if-bad_count.false), ← c.rising.ensures, c.if-not-rising.true)
+returns-then-not-rising c =
+    let a = c.args.asked.now in
+    rw (past_lists a.numbers.now a.turnovers.now a.z (keeping_of a.keeping) c.args.units.now c.if-asked.false (sym c.bad_count.ensures ∙ c.if-bad_count.false), ← c.rising.ensures, c.if-not-rising.true)
 
 pub returns-then-bad_turnovers : goal.returns-then-bad_turnovers
 unfolding refuse ◌then◌
-returns-then-bad_turnovers c = rw (past_lists c.args.numbers.now c.args.turnovers.now c.args.z (keeping_of c.args.keeping.now) c.args.units.now c.if-numbers-turnovers.false (sym c.bad_count.ensures ∙ c.if-bad_count.false), ← c.rising.ensures, c.if-not-rising.false, ← c.bad_turnovers.ensures, c.if-bad_turnovers.true)
+returns-then-bad_turnovers c =
+    let a = c.args.asked.now in
+    rw (past_lists a.numbers.now a.turnovers.now a.z (keeping_of a.keeping) c.args.units.now c.if-asked.false (sym c.bad_count.ensures ∙ c.if-bad_count.false), ← c.rising.ensures, c.if-not-rising.false, ← c.bad_turnovers.ensures, c.if-bad_turnovers.true)
 
 pub returns-then-bad_size : goal.returns-then-bad_size
 unfolding refuse ◌then◌
-returns-then-bad_size c = rw (past_lists c.args.numbers.now c.args.turnovers.now c.args.z (keeping_of c.args.keeping.now) c.args.units.now c.if-numbers-turnovers.false (sym c.bad_count.ensures ∙ c.if-bad_count.false), ← c.rising.ensures, c.if-not-rising.false, ← c.bad_turnovers.ensures, c.if-bad_turnovers.false, ← c.bad_size.ensures, c.if-bad_size.true)
+returns-then-bad_size c =
+    let a = c.args.asked.now in
+    rw (past_lists a.numbers.now a.turnovers.now a.z (keeping_of a.keeping) c.args.units.now c.if-asked.false (sym c.bad_count.ensures ∙ c.if-bad_count.false), ← c.rising.ensures, c.if-not-rising.false, ← c.bad_turnovers.ensures, c.if-bad_turnovers.false, ← c.bad_size.ensures, c.if-bad_size.true)
 
-pub returns-then-units-z : goal.returns-then-units-z
+pub returns-then-units-asked : goal.returns-then-units-asked
 unfolding refuse ◌then◌
-returns-then-units-z c = rw (past_size c.args.numbers.now c.args.turnovers.now c.args.z (keeping_of c.args.keeping.now) c.args.units.now c.if-numbers-turnovers.false (sym c.bad_count.ensures ∙ c.if-bad_count.false) (sym c.rising.ensures ∙ c.if-not-rising.false) (sym c.bad_turnovers.ensures ∙ c.if-bad_turnovers.false) (sym c.bad_size.ensures ∙ c.if-bad_size.false), lt-ltb _ _ c.if-units-z.true)
+returns-then-units-asked c =
+    let a = c.args.asked.now in
+    rw (past_size a.numbers.now a.turnovers.now a.z (keeping_of a.keeping) c.args.units.now c.if-asked.false (sym c.bad_count.ensures ∙ c.if-bad_count.false) (sym c.rising.ensures ∙ c.if-not-rising.false) (sym c.bad_turnovers.ensures ∙ c.if-bad_turnovers.false) (sym c.bad_size.ensures ∙ c.if-bad_size.false), lt-ltb _ _ c.if-units-asked.true)
 
 pub returns-then-bad_keeping : goal.returns-then-bad_keeping
 unfolding keeping_refusal refuse ◌then◌
-returns-then-bad_keeping c = rw (past_size c.args.numbers.now c.args.turnovers.now c.args.z (keeping_of c.args.keeping.now) c.args.units.now c.if-numbers-turnovers.false (sym c.bad_count.ensures ∙ c.if-bad_count.false) (sym c.rising.ensures ∙ c.if-not-rising.false) (sym c.bad_turnovers.ensures ∙ c.if-bad_turnovers.false) (sym c.bad_size.ensures ∙ c.if-bad_size.false), le-ltb _ _ c.if-units-z.false, ← c.bad_keeping.ensures, c.if-bad_keeping.true)
+returns-then-bad_keeping c =
+    let a = c.args.asked.now in
+    rw (past_size a.numbers.now a.turnovers.now a.z (keeping_of a.keeping) c.args.units.now c.if-asked.false (sym c.bad_count.ensures ∙ c.if-bad_count.false) (sym c.rising.ensures ∙ c.if-not-rising.false) (sym c.bad_turnovers.ensures ∙ c.if-bad_turnovers.false) (sym c.bad_size.ensures ∙ c.if-bad_size.false), le-ltb _ _ c.if-units-asked.false, ← c.bad_keeping.ensures, c.if-bad_keeping.true)
 
 pub returns : goal.returns
 unfolding keeping_refusal refuse ◌then◌
-returns c = rw (past_size c.args.numbers.now c.args.turnovers.now c.args.z (keeping_of c.args.keeping.now) c.args.units.now c.if-numbers-turnovers.false (sym c.bad_count.ensures ∙ c.if-bad_count.false) (sym c.rising.ensures ∙ c.if-not-rising.false) (sym c.bad_turnovers.ensures ∙ c.if-bad_turnovers.false) (sym c.bad_size.ensures ∙ c.if-bad_size.false), le-ltb _ _ c.if-units-z.false, ← c.bad_keeping.ensures, c.if-bad_keeping.false)
+returns c =
+    let a = c.args.asked.now in
+    rw (past_size a.numbers.now a.turnovers.now a.z (keeping_of a.keeping) c.args.units.now c.if-asked.false (sym c.bad_count.ensures ∙ c.if-bad_count.false) (sym c.rising.ensures ∙ c.if-not-rising.false) (sym c.bad_turnovers.ensures ∙ c.if-bad_turnovers.false) (sym c.bad_size.ensures ∙ c.if-bad_size.false), le-ltb _ _ c.if-units-asked.false, ← c.bad_keeping.ensures, c.if-bad_keeping.false)

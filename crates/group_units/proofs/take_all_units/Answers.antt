@@ -53,11 +53,11 @@ returns-in_err-judge c =
 pub returns : goal.returns
 unfolding take_all_units_answer take_all_units
 returns c =
-    let a = c.args in
-    let e : take_all_units_refusal a.numbers.now a.turnovers.now a.z (keeping_of a.keeping.now) a.units.now ≡ 0 = sym c.in_ok-judge.ensures in
+    let a = c.args.asked.now in
+    let e : take_all_units_refusal a.numbers.now a.turnovers.now a.z (keeping_of a.keeping) c.args.units.now ≡ 0 = sym c.in_ok-judge.ensures in
     let is = c.find_enlarged-g.ensures in
     rw (e, ← is.size, ← is.agrees.size_is, ← is.agrees.rest_is)
     record {
       result_value = refl;
-      units_after = c.write_marked.ensures ∙ ap (λ (xs : List ℕ). written 0 xs a.units.now) (units_are _ _ _ _ _ _ _ (accepted _ _ _ _ _ e) is);
+      units_after = c.write_marked.ensures ∙ ap (λ (xs : List ℕ). written 0 xs c.args.units.now) (units_are _ _ _ _ _ _ _ (accepted _ _ _ _ _ e) is);
     }

@@ -15,18 +15,18 @@ use Rattle.rotation.proofs.turn.Goals as goal
 
 pub find_enlarged-g-requires : goal.find_enlarged-g-requires
 find_enlarged-g-requires c =
-    let b = births_of c.args.candidates.now in
-    let p = keeping_of c.args.keeping.now in
-    let whole = frame_ok c.args.method _ _ _ _ _ _ _ b p _ c.requires in
-    (ready c.args.method _ _ _ _ _ _ _ b p _ c.requires, whole.units.few)
+    let b = births_of c.args.asked.now.candidates in
+    let p = keeping_of c.args.asked.now.keeping in
+    let whole = frame_ok c.args.asked.now.method _ _ _ _ _ _ _ b p _ c.requires in
+    (ready c.args.asked.now.method _ _ _ _ _ _ _ b p _ c.requires, whole.units.few)
 
 pub fill-requires : goal.fill-requires
 fill-requires c =
-    let b = births_of c.args.candidates.now in
-    let p = keeping_of c.args.keeping.now in
-    let whole = frame_ok c.args.method _ _ _ _ _ _ _ b p _ c.requires in
-    let marks_room : length c.args.frame.now.turnovers.now ≤ length c.find_enlarged-g.new.marks = rw c.find_enlarged-g.auto.marks whole.units.few in
-    let parts = (group_sound c.args.method _ _ _ _ _ _ _ b p _ c.requires).parts in
+    let b = births_of c.args.asked.now.candidates in
+    let p = keeping_of c.args.asked.now.keeping in
+    let whole = frame_ok c.args.asked.now.method _ _ _ _ _ _ _ b p _ c.requires in
+    let marks_room : length c.args.asked.now.frame.turnovers.now ≤ length c.find_enlarged-g.new.marks = rw c.find_enlarged-g.auto.marks whole.units.few in
+    let parts = (group_sound c.args.asked.now.method _ _ _ _ _ _ _ b p _ c.requires).parts in
     record {
       turnovers_bound = (whole.units.total, omega (arith, c.find_enlarged-g.ensures.agrees.size_is, parts, whole.units.size_few));
       turnovers_in_bounds = (marks_room, whole.units.few);
@@ -34,11 +34,11 @@ fill-requires c =
 
 pub members-many-requires : goal.members-many-requires
 members-many-requires c =
-    let b = births_of c.args.candidates.now in
-    let p = keeping_of c.args.keeping.now in
-    let whole = frame_ok c.args.method _ _ _ _ _ _ _ b p _ c.requires in
-    let lists = lists_ok c.args.method _ _ _ _ _ _ _ b p _ c.requires in
-    let marks_room : length c.args.frame.now.turnovers.now ≤ length c.find_enlarged-g.new.marks = rw c.find_enlarged-g.auto.marks whole.units.few in
+    let b = births_of c.args.asked.now.candidates in
+    let p = keeping_of c.args.asked.now.keeping in
+    let whole = frame_ok c.args.asked.now.method _ _ _ _ _ _ _ b p _ c.requires in
+    let lists = lists_ok c.args.asked.now.method _ _ _ _ _ _ _ b p _ c.requires in
+    let marks_room : length c.args.asked.now.frame.turnovers.now ≤ length c.find_enlarged-g.new.marks = rw c.find_enlarged-g.auto.marks whole.units.few in
     record {
       numbers_value = (whole.rises, lists.rises, lists.births_rise);
       judgeable = record {
@@ -54,10 +54,10 @@ members-many-requires c =
 
 pub required-requires : goal.required-requires
 required-requires c =
-    let b = births_of c.args.candidates.now in
-    let p = keeping_of c.args.keeping.now in
-    let whole = frame_ok c.args.method _ _ _ _ _ _ _ b p _ c.requires in
-    let lists = lists_ok c.args.method _ _ _ _ _ _ _ b p _ c.requires in
+    let b = births_of c.args.asked.now.candidates in
+    let p = keeping_of c.args.asked.now.keeping in
+    let whole = frame_ok c.args.asked.now.method _ _ _ _ _ _ _ b p _ c.requires in
+    let lists = lists_ok c.args.asked.now.method _ _ _ _ _ _ _ b p _ c.requires in
     let few : c.members-many.result ≤ most_frame = omega (arith, fill_few c.members-many.ensures.filled, whole.numbers_length, whole.units.few) in
     (lists.scaled, few)
 
@@ -69,24 +69,24 @@ slice_bounds-search-end c = sym (length-take-le c.members-many.result c.members-
 
 pub invariant_of-keyed : goal.invariant_of-keyed
 invariant_of-keyed c =
-    let b = births_of c.args.candidates.now in
-    let p = keeping_of c.args.keeping.now in
+    let b = births_of c.args.asked.now.candidates in
+    let p = keeping_of c.args.asked.now.keeping in
     let held = fill_held c.members-many.ensures.filled in
-    record { units = units_here c.args.method _ _ _ _ _ _ _ b p _ c.requires _ _ c.find_enlarged-g.ensures _ c.fill.ensures _ held.units_are }
+    record { units = units_here c.args.asked.now.method _ _ _ _ _ _ _ b p _ c.requires _ _ c.find_enlarged-g.ensures _ c.fill.ensures _ held.units_are }
 
 pub invariant_of-search : goal.invariant_of-search
 invariant_of-search c =
-    let b = births_of c.args.candidates.now in
-    let p = keeping_of c.args.keeping.now in
+    let b = births_of c.args.asked.now.candidates in
+    let p = keeping_of c.args.asked.now.keeping in
     let held = fill_held c.members-many.ensures.filled in
-    record { searched = searched c.args.method _ _ _ _ _ _ _ b p _ c.requires _ _ c.find_enlarged-g.ensures _ c.fill.ensures _ held.units_are }
+    record { searched = searched c.args.asked.now.method _ _ _ _ _ _ _ b p _ c.requires _ _ c.find_enlarged-g.ensures _ c.fill.ensures _ held.units_are }
 
 pub leave-requires : goal.leave-requires
 leave-requires c =
-    let b = births_of c.args.candidates.now in
-    let p = keeping_of c.args.keeping.now in
-    let whole = frame_ok c.args.method _ _ _ _ _ _ _ b p _ c.requires in
-    let lists = lists_ok c.args.method _ _ _ _ _ _ _ b p _ c.requires in
+    let b = births_of c.args.asked.now.candidates in
+    let p = keeping_of c.args.asked.now.keeping in
+    let whole = frame_ok c.args.asked.now.method _ _ _ _ _ _ _ b p _ c.requires in
+    let lists = lists_ok c.args.asked.now.method _ _ _ _ _ _ _ b p _ c.requires in
     let held = fill_held c.members-many.ensures.filled in
     let many = length-take-le c.members-many.result c.members-many.new.places (held_room held) in
     let few : c.members-many.result ≤ most_frame = omega (arith, fill_few c.members-many.ensures.filled, whole.numbers_length, whole.units.few) in
@@ -94,24 +94,24 @@ leave-requires c =
 
 pub returns-in-Some : goal.returns-in-Some
 returns-in-Some c =
-    let b = births_of c.args.candidates.now in
-    let p = keeping_of c.args.keeping.now in
+    let b = births_of c.args.asked.now.candidates in
+    let p = keeping_of c.args.asked.now.keeping in
     let held = fill_held c.members-many.ensures.filled in
     let many = length-take-le c.members-many.result c.members-many.new.places (held_room held) in
-    let need = c.required.ensures ∙ ap (required c.args.fraction) (sym many) in
+    let need = c.required.ensures ∙ ap (required c.args.asked.now.fraction) (sym many) in
     let left = c.in-Some.ensures in
-    let turned = turn_given c.args.method _ _ _ _ _ _ _ b p _ c.requires _ _ c.find_enlarged-g.ensures _ c.fill.ensures _ held.units_are _ _
+    let turned = turn_given c.args.asked.now.method _ _ _ _ _ _ _ b p _ c.requires _ _ c.find_enlarged-g.ensures _ c.fill.ensures _ held.units_are _ _
     left.step_is need _ refl left.low _ left.many _ left.written_are in
     record { result_value = rw left.start_is turned.0; leavers_after = turned.1 }
 
 pub returns-in-None : goal.returns-in-None
 returns-in-None c =
-    let b = births_of c.args.candidates.now in
-    let p = keeping_of c.args.keeping.now in
+    let b = births_of c.args.asked.now.candidates in
+    let p = keeping_of c.args.asked.now.keeping in
     let held = fill_held c.members-many.ensures.filled in
     let many = length-take-le c.members-many.result c.members-many.new.places (held_room held) in
-    let need = c.required.ensures ∙ ap (required c.args.fraction) (sym many) in
+    let need = c.required.ensures ∙ ap (required c.args.asked.now.fraction) (sym many) in
     let last = c.in-None.ensures in
-    let refused = turn_refused c.args.method _ _ _ _ _ _ _ b p _ c.requires _ _ c.find_enlarged-g.ensures _ c.fill.ensures _ held.units_are _ _
+    let refused = turn_refused c.args.asked.now.method _ _ _ _ _ _ _ b p _ c.requires _ _ c.find_enlarged-g.ensures _ c.fill.ensures _ held.units_are _ _
     (sym last.0) need (omega arith) in
     record { result_value = refused.0; leavers_after = last.1 ∙ refused.1 }

@@ -5,10 +5,10 @@ use Rattle.group.specs.Group.{marked}
 use Rattle.group_border.specs.Border.{eligible}
 use Rattle.group_border.proofs.border.Border.is_eligible.Goals as goal
 
-pub returns-then-self-i-eq1 : goal.returns-then-self-i-eq1
+pub returns-else-self-i-ne1 : goal.returns-else-self-i-ne1
 unfolding eligible marked ◌and◌
-returns-then-self-i-eq1 c = rw (lt-ltb _ _ c.requires, eq-eqb _ _ c.if-self-i-eq1.true)
+returns-else-self-i-ne1 c = rw (lt-ltb _ _ c.requires, eq-eqb _ _ c.if-self-i-ne1.false)
 
-pub returns : goal.returns
+pub returns-then-self-i-ne1 : goal.returns-then-self-i-ne1
 unfolding eligible marked ◌and◌
-returns c = rw (lt-ltb _ _ c.requires, ne_eqb _ _ c.if-self-i-eq1.false) c.is_near.ensures
+returns-then-self-i-ne1 c = rw (lt-ltb _ _ c.requires, ne_eqb _ _ c.if-self-i-ne1.true) c.is_near.ensures

@@ -14,7 +14,8 @@ use Rattle.rules.specs.Draw.{frame_refusal, draw_refusal, kept_draw_refusal}
 use Rattle.refusals.specs.Number.{refusal_of}
 use Rattle.refusals.proofs.Answers.{stops_by_lem}
 use Rattle.group_keeping.specs.Keeping.{keeping_of}
-use Rattle.draw.proofs.judge.Goals as goal
+use Rattle.draw.proofs.Design.judge.Goals as goal
+use Rattle.draw.proofs.Design.judge.Goals.{then-panel-self-via-then-panel-self, then-panel-self-via-else-panel-self+then-weights-self}
 
 -- an accepted frame leaves it to the buffers, and to γ and the lists
 past_frame :
@@ -23,23 +24,22 @@ past_frame :
 unfolding kept_draw_refusal draw_refusal ◌then◌
 past_frame f z start p panel weights none = rw none
 
-pub returns-then-panel-z : goal.returns-then-panel-z
+pub returns-then-panel-self : goal.returns-then-panel-self
 unfolding refuse ◌then◌ ◌or◌
-returns-then-panel-z c =
-    rw (past_frame _ _ _ (keeping_of c.args.keeping.now) _ _ (sym c.judge.ensures ∙ ap refusal_of c.in_ok-judge.was), lt-ltb _ _ c.if-panel-z.true)
-
-pub returns-then-weights-z : goal.returns-then-weights-z
-unfolding refuse ◌then◌ ◌or◌
-returns-then-weights-z c =
-    rw (past_frame _ _ _ (keeping_of c.args.keeping.now) _ _ (sym c.judge.ensures ∙ ap refusal_of c.in_ok-judge.was), le-ltb _ _ c.if-panel-z.false, lt-ltb _ _ c.if-weights-z.true)
+returns-then-panel-self c =
+    let past = past_frame _ _ _ (keeping_of c.args.self.now.keeping) c.args.panel.now c.args.weights.now (sym c.judge.ensures ∙ ap refusal_of c.in_ok-judge.was) in
+    elim c.then-panel-self.branch [
+      | then-panel-self-via-then-panel-self w ↦ rw (past, lt-ltb _ _ w.if-panel-self.true)
+      | then-panel-self-via-else-panel-self+then-weights-self w ↦ rw (past, le-ltb _ _ w.if-panel-self.false, lt-ltb _ _ w.if-weights-self.true)
+    ]
 
 pub returns-then-bad_keeping : goal.returns-then-bad_keeping
 unfolding keeping_refusal refuse ◌then◌ ◌or◌
 returns-then-bad_keeping c =
     rw (
-      past_frame _ _ _ (keeping_of c.args.keeping.now) _ _ (sym c.judge.ensures ∙ ap refusal_of c.in_ok-judge.was),
-      le-ltb _ _ c.if-panel-z.false,
-      le-ltb _ _ c.if-weights-z.false,
+      past_frame _ _ _ (keeping_of c.args.self.now.keeping) _ _ (sym c.judge.ensures ∙ ap refusal_of c.in_ok-judge.was),
+      le-ltb _ _ c.if-panel-self.false,
+      le-ltb _ _ c.if-weights-self.false,
       ← c.bad_keeping.ensures,
       c.if-bad_keeping.true,
     )
@@ -54,9 +54,9 @@ pub returns : goal.returns
 unfolding keeping_refusal refuse ◌then◌ ◌or◌
 returns c =
     rw (
-      past_frame _ _ _ (keeping_of c.args.keeping.now) _ _ (sym c.judge.ensures ∙ ap refusal_of c.in_ok-judge.was),
-      le-ltb _ _ c.if-panel-z.false,
-      le-ltb _ _ c.if-weights-z.false,
+      past_frame _ _ _ (keeping_of c.args.self.now.keeping) _ _ (sym c.judge.ensures ∙ ap refusal_of c.in_ok-judge.was),
+      le-ltb _ _ c.if-panel-self.false,
+      le-ltb _ _ c.if-weights-self.false,
       ← c.bad_keeping.ensures,
       c.if-bad_keeping.false,
     )

@@ -1,4 +1,4 @@
--- `find_enlarged` meets its contract: the base group, its candidates in order, the first of them marked, and what is left of n and X.
+-- `TakeAll::find_enlarged` meets its contract: the base group, its candidates in order, the first of them marked, and what is left of n and X.
 use Prim.Native.Nat.{◌≤◌}
 use native.Mathlib.Omega.{arith}
 use lib.ListN.{length}
@@ -6,13 +6,13 @@ use Rattle.frame.proofs.Accepted.{place_within}
 use Rattle.selection.proofs.TakeAll.{size_le}
 use Rattle.group.proofs.Accepted.{sound}
 use Rattle.group_kept.proofs.Taking.{outside, all_kept, some_left}
-use Rattle.group_kept.proofs.find_enlarged.Goals as goal
+use Rattle.group_kept.proofs.TakeAll.find_enlarged.Goals as goal
 
 -- once the base group is found
 pub invariant_of-border : goal.invariant_of-border
 invariant_of-border c =
     let pre = c.requires.0 in
-    let a = c.args in
+    let a = c.args.self.now in
     let known = sound a.turnovers.now a.z pre.sized.within in
     let agrees = c.find_group-g.ensures.group.agrees in
     let marks_room : length a.turnovers.now ≤ length c.find_group-g.new.marks = omega (arith, c.find_group-g.auto.marks, c.requires.1) in
@@ -32,7 +32,7 @@ invariant_of-border c =
 -- and the candidates, of which the first are kept
 pub overflow_add-q : goal.overflow_add-q
 overflow_add-q c =
-    let a = c.args in
+    let a = c.args.self.now in
     let sized = c.requires.0.sized in
     let group = c.find_group-g.ensures.group in
     omega (

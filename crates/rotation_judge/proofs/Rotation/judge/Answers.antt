@@ -1,11 +1,11 @@
--- `judge` meets its contract: a refused frame stops the sequence, an accepted one rises and leaves it to the lists.
+-- `Rotation::judge` meets its contract: a refused frame stops the sequence, an accepted one rises and leaves it to the lists.
 use mathlib.Core.Path.{sym, ap, ◌∙◌}
 use Rattle.std.proofs.lemmas.Result.{err_from_is_err_and}
 use Rattle.rules.proofs.Refusals.{then_goes}
 use Rattle.refusals.specs.Number.{refusal_of}
 use Rattle.refusals.proofs.Answers.{stops_by_lem}
 use Rattle.frame.proofs.Accepted.{accepted}
-use Rattle.rotation_judge.proofs.judge.Goals as goal
+use Rattle.rotation_judge.proofs.Rotation.judge.Goals as goal
 
 pub judge_lists-requires : goal.judge_lists-requires
 judge_lists-requires c = (accepted _ _ _ (sym c.judge.ensures ∙ ap refusal_of c.in_ok-judge.was)).rises

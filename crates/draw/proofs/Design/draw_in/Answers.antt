@@ -3,7 +3,7 @@ use mathlib.Core.Path.{ap, ◌∙◌}
 use mathlib.Core.List.{List}
 use Prim.Native.Nat.{ℕ, ◌≤◌}
 use native.Mathlib.Omega.{arith}
-use lib.ListN.{length}
+use lib.ListN.{length, replicate, length-replicate}
 use Rattle.rules.specs.Refusals.{written}
 use Rattle.rules.specs.TakeAll.{Frame}
 use Rattle.rules.specs.Kept.{Keeping, enlarged_group}
@@ -15,7 +15,7 @@ use Rattle.draw_key.specs.declared.Method.{Method}
 use Rattle.draw_gaps.specs.Gaps.{Gaps}
 use Rattle.draw.proofs.Accepted.{KeptAccepted, kept_accepted}
 use Rattle.draw.proofs.Panel as panels
-use Rattle.draw.proofs.draw_with.Goals as goal
+use Rattle.draw.proofs.Design.draw_in.Goals as goal
 
 -- once the group, the definition's enlarged one, is found and the gaps are written
 drawing :
@@ -31,30 +31,34 @@ drawing {p = p} ok is filled = record {
   filled = filled;
 }
 
+-- N blank places are room for a frame of at most N units
+blank_room : (n N : ℕ) → n ≤ N → n ≤ length (replicate {A = ℕ} N 0)
+blank_room n N h = omega (arith, h, length-replicate {A = ℕ} N 0)
+
 pub find_enlarged-g-requires : goal.find_enlarged-g-requires
-find_enlarged-g-requires c = ((kept_accepted _ _ _ _ _ _ c.requires.weights_value).ready, c.requires.turnovers_in_bounds.1)
+find_enlarged-g-requires g c = ((kept_accepted _ _ _ _ _ _ c.requires.accepted).ready, blank_room _ _ c.requires.room.0)
 
 pub fill-requires-clause-turnovers_bound : goal.fill-requires-clause-turnovers_bound
-fill-requires-clause-turnovers_bound c =
-    let k = (kept_accepted _ _ _ _ _ _ c.requires.weights_value).drawn.frame_ok.units in
-    let parts = (enlarged_sound c.args.frame.now.numbers.now c.args.frame.now.turnovers.now c.args.z k.size_within (keeping_of c.args.keeping.now)).parts in
+fill-requires-clause-turnovers_bound g c =
+    let k = (kept_accepted _ _ _ _ _ _ c.requires.accepted).drawn.frame_ok.units in
+    let parts = (enlarged_sound c.args.self.now.frame.numbers.now c.args.self.now.frame.turnovers.now c.args.self.now.z k.size_within (keeping_of c.args.self.now.keeping)).parts in
     (k.total, omega (arith, c.find_enlarged-g.ensures.agrees.size_is, parts, k.size_few))
 
 pub invariant_of-keyed : goal.invariant_of-keyed
-invariant_of-keyed c =
-    record { units = panels.units_here (drawing (kept_accepted _ _ _ _ _ _ c.requires.weights_value) c.find_enlarged-g.ensures c.fill.ensures) }
+invariant_of-keyed g c =
+    record { units = panels.units_here (drawing (kept_accepted _ _ _ _ _ _ c.requires.accepted) c.find_enlarged-g.ensures c.fill.ensures) }
 
 pub invariant_of-weighed : goal.invariant_of-weighed
-invariant_of-weighed c =
-    let all = kept_accepted _ _ _ _ _ _ c.requires.weights_value in
+invariant_of-weighed g c =
+    let all = kept_accepted _ _ _ _ _ _ c.requires.accepted in
     let d = drawing all c.find_enlarged-g.ensures c.fill.ensures in
-    let marks_room : length c.args.frame.now.turnovers.now ≤ length c.find_enlarged-g.new.marks =
-    omega (arith, c.find_enlarged-g.auto.marks, c.requires.turnovers_in_bounds.1) in
+    let marks_room : length c.args.self.now.frame.turnovers.now ≤ length c.find_enlarged-g.new.marks =
+    omega (arith, c.find_enlarged-g.auto.marks, blank_room _ _ c.requires.room.0) in
     record { weighable = panels.weighable d marks_room; numbered = all.drawn.frame_ok.numbers_length }
 
 pub write_found-requires : goal.write_found-requires
-write_found-requires c =
-    let all = kept_accepted _ _ _ _ _ _ c.requires.weights_value in
+write_found-requires g c =
+    let all = kept_accepted _ _ _ _ _ _ c.requires.accepted in
     let d = drawing all c.find_enlarged-g.ensures c.fill.ensures in
     let w = c.in-Some.ensures in
     let size = panels.found_size d _ w in
@@ -64,11 +68,11 @@ write_found-requires c =
     }
 
 pub write_ordered-requires : goal.write_ordered-requires
-write_ordered-requires c =
-    let all = kept_accepted _ _ _ _ _ _ c.requires.weights_value in
+write_ordered-requires g c =
+    let all = kept_accepted _ _ _ _ _ _ c.requires.accepted in
     let d = drawing all c.find_enlarged-g.ensures c.fill.ensures in
-    let marks_room : length c.args.frame.now.turnovers.now ≤ length c.find_enlarged-g.new.marks =
-    omega (arith, c.find_enlarged-g.auto.marks, c.requires.turnovers_in_bounds.1) in
+    let marks_room : length c.args.self.now.frame.turnovers.now ≤ length c.find_enlarged-g.new.marks =
+    omega (arith, c.find_enlarged-g.auto.marks, blank_room _ _ c.requires.room.0) in
     let size = panels.drawn_size d in
     record {
       markable = (panels.weighable d marks_room, panels.markable d);
@@ -76,21 +80,21 @@ write_ordered-requires c =
     }
 
 pub returns-in-Some-clause-panel_after : goal.returns-in-Some-clause-panel_after
-returns-in-Some-clause-panel_after c =
-    let d = drawing (kept_accepted _ _ _ _ _ _ c.requires.weights_value) c.find_enlarged-g.ensures c.fill.ensures in
+returns-in-Some-clause-panel_after g c =
+    let d = drawing (kept_accepted _ _ _ _ _ _ c.requires.accepted) c.find_enlarged-g.ensures c.fill.ensures in
     c.write_found.ensures.panel_after ∙ ap (λ (xs : List ℕ). written 0 xs c.args.panel.now) (panels.found_numbers d _ c.in-Some.ensures)
 
 pub returns-in-Some-clause-weights_after : goal.returns-in-Some-clause-weights_after
-returns-in-Some-clause-weights_after c =
-    let d = drawing (kept_accepted _ _ _ _ _ _ c.requires.weights_value) c.find_enlarged-g.ensures c.fill.ensures in
+returns-in-Some-clause-weights_after g c =
+    let d = drawing (kept_accepted _ _ _ _ _ _ c.requires.accepted) c.find_enlarged-g.ensures c.fill.ensures in
     c.write_found.ensures.weights_after ∙ ap (λ (xs : List ℕ). written 0 xs c.args.weights.now) (panels.found_weights d _ c.in-Some.ensures)
 
 pub returns-in-None-clause-panel_after : goal.returns-in-None-clause-panel_after
-returns-in-None-clause-panel_after c =
-    let d = drawing (kept_accepted _ _ _ _ _ _ c.requires.weights_value) c.find_enlarged-g.ensures c.fill.ensures in
+returns-in-None-clause-panel_after g c =
+    let d = drawing (kept_accepted _ _ _ _ _ _ c.requires.accepted) c.find_enlarged-g.ensures c.fill.ensures in
     c.write_ordered.ensures.panel_after ∙ ap (λ (xs : List ℕ). written 0 xs c.args.panel.now) (panels.drawn_numbers d)
 
 pub returns-in-None-clause-weights_after : goal.returns-in-None-clause-weights_after
-returns-in-None-clause-weights_after c =
-    let d = drawing (kept_accepted _ _ _ _ _ _ c.requires.weights_value) c.find_enlarged-g.ensures c.fill.ensures in
+returns-in-None-clause-weights_after g c =
+    let d = drawing (kept_accepted _ _ _ _ _ _ c.requires.accepted) c.find_enlarged-g.ensures c.fill.ensures in
     c.write_ordered.ensures.weights_after ∙ ap (λ (xs : List ℕ). written 0 xs c.args.weights.now) (panels.drawn_weights_lem d)
