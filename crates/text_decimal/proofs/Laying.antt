@@ -91,6 +91,11 @@ nothing_at at o =
     }
 
 -- a text laid at the front
+pub counted : {text o o₁ : List ℕ} {r : ℕ} → Put 0 text o o₁ r → r ≡ length text
+counted {text} put =
+    let start : 0 + length text ≡ length text = omega arith in
+    put.place ∙ start
+
 pub fronted : {text o o₁ : List ℕ} {r : ℕ} → Put 0 text o o₁ r → o₁ ≡ text ++ drop (length text) o
 unfolding laid_at
 fronted {text} {o} put =

@@ -9,7 +9,7 @@ use Rattle.rules.specs.Lines.{line_of, line_of2}
 use Rattle.text_decimal.specs.Put.{Put}
 use Rattle.text_decimal.specs.declared.Writer.{Writer}
 use Rattle.text_decimal.specs.Wrote.{Wrote}
-use Rattle.text_decimal.proofs.Laying.{fronted}
+use Rattle.text_decimal.proofs.Laying.{counted, fronted}
 use Rattle.text_decimal.proofs.Digits.{digits_length, line_length, line2_length}
 use Rattle.text_lines.specs.Laid.{line_room, laid, laid_count, Lays}
 
@@ -27,9 +27,7 @@ module _ (room : ℕ) (text o : List ℕ) where
   -- a text laid at the front of a buffer with the room, which is then given back
   pub at_front : {o₁ back : List ℕ} {r : ℕ} → room ≤ length o → Put 0 text o o₁ r → back ≡ o₁ → Lays room text o back r
   unfolding laid laid_count
-  at_front h put e =
-      let start : 0 + length text ≡ length text = omega arith in
-      (simp (le-ltb _ _ h) (put.place ∙ start), simp (le-ltb _ _ h) (e ∙ fronted put))
+  at_front h put e = (simp (le-ltb _ _ h) (counted put), simp (le-ltb _ _ h) (e ∙ fronted put))
 
   -- a buffer without the room stays
   pub no_room : length o < room → Lays room text o o 0
