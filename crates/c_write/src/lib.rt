@@ -6,6 +6,7 @@ ghost use Rattle.std.specs.Prelude.{◌≡◌};
 ghost use Rattle.rules.specs.Writing.{lists, write_answer, write_bytes, read_all_answer, read_all_lists};
 ghost use Rattle.c_write.specs.Written.{written_from, listed_from};
 
+use stream_all::Places;
 use stream_write::Lists;
 
 // The bytes of the stream that stands in the buffer.
@@ -77,7 +78,15 @@ pub extern "C" fn vougecress_read_all(
         ≡ read_all_lists stream.now
         (lists kinds.old sizes.old shares.old numbers.old randoms.old amounts.old) }
 {
-    match stream_all::read_all(stream, kinds, sizes, shares, numbers, randoms, amounts) {
+    let mut places = Places {
+        kinds,
+        sizes,
+        shares,
+        numbers,
+        randoms,
+        amounts,
+    };
+    match stream_all::read_all(stream, &mut places) {
         Ok(commands) => Listed {
             refusal: 0,
             count: commands as u64,

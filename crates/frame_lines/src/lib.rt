@@ -8,7 +8,7 @@ ghost use Rattle.rules.specs.Register.{Row as RulesRow, line_at, row_at, importe
 ghost use Rattle.frame_lines.specs.Value.{line_from, row_from, imported_from, units_after};
 
 use limits::{MOST_LONG, MOST_SHORT};
-use text_field::{field_and_comma, field_and_end};
+use text_field::Cursor;
 
 // C shares this layout.
 #[repr(C)]
@@ -37,15 +37,19 @@ pub enum ImportError {
 pub fn read_line(t: &[u8], at: usize) -> Option<Row>
     ensures { line_from result ≡ line_at t.now at }
 {
-    let (number, i) = field_and_comma(t, at, MOST_SHORT)?;
-    let (turnover, j) = field_and_comma(t, i, MOST_LONG)?;
-    let (random, next) = field_and_end(t, j, MOST_SHORT)?;
+    let mut line = Cursor { text: t, at };
+    let number = line.field_and_comma(MOST_SHORT)?;
+    let turnover = line.field_and_comma(MOST_LONG)?;
+    let random = line.field_and_end(MOST_SHORT)?;
     let unit = Unit {
         number: number as u32,
         turnover,
         random: random as u32,
     };
-    Some(Row { unit, next })
+    Some(Row {
+        unit,
+        next: line.at,
+    })
 }
 
 // The line that begins at an offset; where it is not of the form, a row of zeros that stays at the offset.

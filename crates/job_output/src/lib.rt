@@ -17,6 +17,7 @@ fn text_room() -> [u8; TEXT_ROOM]
 }
 
 // Lays the first count bytes of a turn's text from the place at on, if they have room.
+// No writer: what has no room is counted all the same, so that the place may lie beyond the buffer.
 fn lay(text: &[u8; TEXT_ROOM], count: usize, out: &mut [u8], at: usize)
     requires { count ≤ length text.now }
     ensures { (count ≤ panel_room) × (out.new ≡ fitted at (take count text.now) out.old) }

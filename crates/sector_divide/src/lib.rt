@@ -1,4 +1,4 @@
-// Document 02, [10]: the quotas' whole parts and remainders, by T' (`rest`), the strengths left (`total`) and the marks of the sectors that left.
+// Document 02, [10]: the quotas' whole parts and remainders, by what is left to share and the marks of the sectors that left.
 #![tactic(auto)]
 
 ghost use Rattle.std.specs.Prelude.{◌≡◌, cond, ◌*◌, ◌/◌, ◌%◌, ◌≤◌, ◌<◌, not};
@@ -9,6 +9,7 @@ ghost use Rattle.sector_divide.specs.Quotas.{count_by, whole_by, remainder_by, D
 
 use limits::MOST_SECTORS;
 use sector_judge::Sharing;
+use sector_passes::Left;
 
 // The three lists of the answer: a struct for C holds the same three, so they are no list of parts.
 #[derive(Drop)]
@@ -27,11 +28,11 @@ struct Part {
 }
 
 // The quota of a sector that is still there, or the minimum of one that left.
-fn quota(rest: u64, total: u64, strength: u64, minimum: u64, gone: bool) -> Part
-    requires { (0 < total) × (rest ≤ most_interviews) × (strength ≤ highest_strength) }
-    ensures count_value { result.count ≡ cond (not gone) (rest * strength / total) minimum }
-    ensures whole_value { result.whole ≡ cond (not gone) (rest * strength / total) 0 }
-    ensures remainder_value { result.remainder ≡ cond (not gone) (rest * strength % total) 0 }
+fn quota(left: Left, strength: u64, minimum: u64, gone: bool) -> Part
+    requires { (0 < left.total) × (left.rest ≤ most_interviews) × (strength ≤ highest_strength) }
+    ensures count_value { result.count ≡ cond (not gone) (left.rest * strength / left.total) minimum }
+    ensures whole_value { result.whole ≡ cond (not gone) (left.rest * strength / left.total) 0 }
+    ensures remainder_value { result.remainder ≡ cond (not gone) (left.rest * strength % left.total) 0 }
 {
     if gone {
         return Part {
@@ -40,28 +41,28 @@ fn quota(rest: u64, total: u64, strength: u64, minimum: u64, gone: bool) -> Part
             remainder: 0,
         };
     }
-    let product = rest * strength;
-    let whole = product / total;
+    let product = left.rest * strength;
+    let whole = product / left.total;
     Part {
         count: whole,
         whole,
-        remainder: product % total,
+        remainder: product % left.total,
     }
 }
 
 // Minima and whole parts, before one more each.
-pub fn divide(rest: u64, total: u64, sharing: &Sharing, gone: &[bool]) -> Quotas
-    requires { Dividable rest total (sharing_of sharing.now) gone.now }
-    ensures counts_value { result.counts ≡ in_places (sectors (sharing_of sharing.now)) (count_by rest total (sharing_of sharing.now) gone.now) }
-    ensures wholes_value { result.wholes ≡ in_places (sectors (sharing_of sharing.now)) (whole_by rest total (sharing_of sharing.now) gone.now) }
-    ensures remainders_value { result.remainders ≡ in_places (sectors (sharing_of sharing.now)) (remainder_by rest total (sharing_of sharing.now) gone.now) }
+pub fn divide(left: Left, sharing: &Sharing, gone: &[bool]) -> Quotas
+    requires { Dividable left.rest left.total (sharing_of sharing.now) gone.now }
+    ensures counts_value { result.counts ≡ in_places (sectors (sharing_of sharing.now)) (count_by left.rest left.total (sharing_of sharing.now) gone.now) }
+    ensures wholes_value { result.wholes ≡ in_places (sectors (sharing_of sharing.now)) (whole_by left.rest left.total (sharing_of sharing.now) gone.now) }
+    ensures remainders_value { result.remainders ≡ in_places (sectors (sharing_of sharing.now)) (remainder_by left.rest left.total (sharing_of sharing.now) gone.now) }
 {
     let minima = sharing.minima;
     let mut counts = [0; MOST_SECTORS];
     let mut wholes = [0; MOST_SECTORS];
     let mut remainders = [0; MOST_SECTORS];
     for (i, strength) in sharing.strengths.iter().enumerate() {
-        let part = quota(rest, total, *strength, minima[i], gone[i]);
+        let part = quota(left, *strength, minima[i], gone[i]);
         counts[i] = part.count;
         wholes[i] = part.whole;
         remainders[i] = part.remainder;

@@ -56,8 +56,7 @@ module _ (a : Sharing) (ok : Accepted a) (gone : List Bool) (full : length gone 
   minima_summable = record { room = omega (arith, full, ok.few, ok.same); low = omega (arith, minima_same every, ok.fits, ok.most) }
 
   -- ---- T' and the strengths left
-  module _ (given total : ℕ) (e : given ≡ sum_of (λ i. not (still_in gone i)) (minimum a) (length a.minima))
-      (d : total ≡ sum_of (still_in gone) (strength a) (sectors a)) where
+  module _ (given : ℕ) (e : given ≡ sum_of (λ i. not (still_in gone i)) (minimum a) (length a.minima)) where
     pub given_low : given ≤ a.interviews
     given_low = omega (arith, e, minima_same (λ i. not (still_in gone i)), sum_every (λ i. not (still_in gone i)) (minimum a) (sectors a), ok.fits)
 
@@ -65,22 +64,23 @@ module _ (a : Sharing) (ok : Accepted a) (gone : List Bool) (full : length gone 
     unfolding remaining
     rest_is = ap (λ (k : ℕ). a.interviews - k) (e ∙ minima_same (λ i. not (still_in gone i)))
 
-    pub total_is : total ≡ strengths_left a (still_in gone)
-    unfolding strengths_left
-    total_is = d
+  module _ (rest total : ℕ) (rest_is : rest ≡ remaining a (still_in gone)) (total_is : total ≡ strengths_left a (still_in gone)) where
+    pub rest_low : rest ≤ a.interviews
+    unfolding remaining
+    rest_low = omega (arith, rest_is)
 
-    pub pass_asks : Passable (a.interviews - given) total a gone
+    pub pass_asks : Passable rest total a gone
     pass_asks = record {
       same = ok.same;
       room = omega (arith, full, ok.few);
       strong = λ i l. (ok.strong i l).1;
       least = λ i l. omega (arith, minimum_fits a ok i l, ok.most);
-      few = omega (arith, ok.most);
+      few = omega (arith, rest_low, ok.most);
       low = omega (arith, total_is, strengths_low (still_in gone));
     }
 
     abbrev low : ℕ → Bool
-    low = is_below (a.interviews - given) total a
+    low = is_below rest total a
 
     -- so a pass is the definition's
     pub leaves_are : (leave : ℕ) → leave ≡ count (λ i. still_in gone i and low i) (sectors a) → leave ≡ count (leaving a (still_in gone)) (sectors a)

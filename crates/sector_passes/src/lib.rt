@@ -5,7 +5,7 @@ ghost use Rattle.std.specs.Prelude.{◌≡◌, not, ℕ, length};
 ghost use Rattle.rules.specs.Limits.{most_sectors};
 ghost use Rattle.rules.specs.Tests.{◌and◌};
 ghost use Rattle.rules.specs.Selection.{sum_of, count};
-ghost use Rattle.rules.specs.Allocation.{sectors, stayed};
+ghost use Rattle.rules.specs.Allocation.{sectors, remaining, strengths_left, stayed};
 ghost use Rattle.sector_quota.specs.Accepted.{Accepted};
 ghost use Rattle.sector_judge.specs.Sharing.{sharing_of};
 ghost use Rattle.sector_passes.specs.Marks.{still_in, marked_as, value_of, is_below, Summable, Passable};
@@ -43,16 +43,35 @@ pub fn sum_gone(values: &[u64], gone: &[bool]) -> u64
     sum_marked(values, gone, true)
 }
 
+// What is left to share once some sectors left: T', and the strengths of those that are still there.
+#[derive(Clone, Copy)]
+pub struct Left {
+    pub rest: u64,
+    pub total: u64,
+}
+
+// What these marks leave to share.
+pub fn left_by(sharing: &Sharing, gone: &[bool]) -> Left
+    requires { Accepted (sharing_of sharing.now) × (length gone.now ≡ most_sectors) }
+    ensures rest_value { result.rest ≡ remaining (sharing_of sharing.now) (still_in gone.now) }
+    ensures total_value { result.total ≡ strengths_left (sharing_of sharing.now) (still_in gone.now) }
+{
+    Left {
+        rest: sharing.interviews - sum_gone(sharing.minima, gone),
+        total: sum_still(sharing.strengths, gone),
+    }
+}
+
 // One pass: marks all whose quota is below their minimum, and answers how many they are.
-fn pass(rest: u64, total: u64, sharing: &Sharing, gone: &mut [bool]) -> usize
-    requires { Passable rest total (sharing_of sharing.now) gone.old }
-    ensures value { result ≡ count (λ i. still_in gone.old i and is_below rest total (sharing_of sharing.now) i) (sectors (sharing_of sharing.now)) }
-    ensures by_index { (i : ℕ) → still_in gone.new i ≡ (still_in gone.old i and not (is_below rest total (sharing_of sharing.now) i)) }
+fn pass(left: Left, sharing: &Sharing, gone: &mut [bool]) -> usize
+    requires { Passable left.rest left.total (sharing_of sharing.now) gone.old }
+    ensures value { result ≡ count (λ i. still_in gone.old i and is_below left.rest left.total (sharing_of sharing.now) i) (sectors (sharing_of sharing.now)) }
+    ensures by_index { (i : ℕ) → still_in gone.new i ≡ (still_in gone.old i and not (is_below left.rest left.total (sharing_of sharing.now) i)) }
 {
     let minima = sharing.minima;
     let mut leave: usize = 0;
     for (i, strength) in sharing.strengths.iter().enumerate() {
-        if !gone[i] && rest * *strength < minima[i] * total {
+        if !gone[i] && left.rest * *strength < minima[i] * left.total {
             gone[i] = true;
             leave += 1;
         }
@@ -68,9 +87,7 @@ pub fn settle(sharing: &Sharing) -> [bool; MOST_SECTORS]
 {
     let mut gone = [false; MOST_SECTORS];
     for _k in 0..sharing.strengths.len() {
-        let rest = sharing.interviews - sum_gone(sharing.minima, &gone);
-        let total = sum_still(sharing.strengths, &gone);
-        let leave = pass(rest, total, sharing, &mut gone);
+        let leave = pass(left_by(sharing, &gone), sharing, &mut gone);
         if leave == 0 {
             return gone;
         }

@@ -1,6 +1,6 @@
 -- The passes are made: what is divided and given from there on is what the definitions say.
 use mathlib.Core.Path.{◌≡◌, sym, ap, ap₂, ◌∙◌, subst}
-use mathlib.Core.Bool.{Bool, false, not, cond}
+use mathlib.Core.Bool.{Bool, false, cond}
 use mathlib.Core.List.{List}
 use Prim.Native.Nat.{ℕ, ◌+◌, ◌-◌, ◌*◌, ◌/◌, ◌≤◌, ◌<◌, zero-le}
 use native.Mathlib.Nat.{mul-le-mul}
@@ -19,7 +19,7 @@ use Rattle.sector_quota.proofs.Accepted.{minimum_fits}
 use Rattle.sector_quota.proofs.Passes.{Settled, given_fits, stayed_settled}
 use Rattle.sector_quota.proofs.Counts.{total_some, whole_is, whole_fits, few_more}
 use Rattle.sector_passes.specs.Marks.{still_in, value_of, Summable}
-use Rattle.sector_passes.proofs.Settling.{rest_is, total_is}
+use Rattle.sector_passes.proofs.Settling.{rest_low}
 use Rattle.sector_divide.specs.Quotas.{count_by, whole_by, remainder_by, Dividable}
 use Rattle.sector_more.specs.Given.{Givable, Given}
 use Rattle.sector_sample.proofs.Places.{places_length, places_front, places_at, places_beyond}
@@ -29,38 +29,34 @@ not_more : (a : Sharing) (still : ℕ → Bool) (i : ℕ) → still i ≡ false 
 unfolding one_more firsts
 not_more a still i h = and_off (still i) _ h
 
--- the marks are those of the last pass, `given` is what the sectors that left have, and `total` the strengths left
-pub record Ready (a : Sharing) (gone : List Bool) (given total : ℕ) : Type 0 where
+-- the marks are those of the last pass, and what is left to share is what they leave
+pub record Ready (a : Sharing) (gone : List Bool) (rest total : ℕ) : Type 0 where
   pub ok : Accepted a
   pub full : length gone ≡ most_sectors
   pub settled : still_in gone ≡ stayed a
-  pub minima_are : given ≡ sum_of (λ i. not (still_in gone i)) (minimum a) (length a.minima)
-  pub strengths_are : total ≡ sum_of (still_in gone) (strength a) (sectors a)
+  pub rest_same : rest ≡ remaining a (still_in gone)
+  pub total_same : total ≡ strengths_left a (still_in gone)
 
 pub ready :
-    {a : Sharing} {gone : List Bool} {given total : ℕ} → Accepted a → length gone ≡ most_sectors → still_in gone ≡ stayed a
-    → given ≡ sum_of (λ i. not (still_in gone i)) (minimum a) (length a.minima) → total ≡ sum_of (still_in gone) (strength a) (sectors a)
-    → Ready a gone given total
-ready ok full settled given total = record { ok = ok; full = full; settled = settled; minima_are = given; strengths_are = total }
+    {a : Sharing} {gone : List Bool} {rest total : ℕ} → Accepted a → length gone ≡ most_sectors → still_in gone ≡ stayed a
+    → rest ≡ remaining a (still_in gone) → total ≡ strengths_left a (still_in gone) → Ready a gone rest total
+ready ok full settled rest total = record { ok = ok; full = full; settled = settled; rest_same = rest; total_same = total }
 
-module _ (a : Sharing) (gone : List Bool) (given total : ℕ) (known : Ready a gone given total) where
+module _ (a : Sharing) (gone : List Bool) (rest total : ℕ) (known : Ready a gone rest total) where
   abbrev ok : Accepted a
   ok = known.ok
 
   abbrev still : ℕ → Bool
   still = still_in gone
 
-  abbrev rest : ℕ
-  rest = a.interviews - given
-
   done : Settled a still
   done = subst (Settled a) (sym known.settled) (stayed_settled a ok)
 
-  rest_same : rest ≡ remaining a still
-  rest_same = rest_is a ok gone known.full given total known.minima_are known.strengths_are
+  abbrev rest_same : rest ≡ remaining a still
+  rest_same = known.rest_same
 
-  total_same : total ≡ strengths_left a still
-  total_same = total_is a ok gone known.full given total known.minima_are known.strengths_are
+  abbrev total_same : total ≡ strengths_left a still
+  total_same = known.total_same
 
   -- ---- the division
   pub dividable : Dividable rest total a gone
@@ -69,7 +65,7 @@ module _ (a : Sharing) (gone : List Bool) (given total : ℕ) (known : Ready a g
     room = omega (arith, known.full, ok.few);
     places = ok.few;
     some = omega (arith, total_same, total_some a ok still done);
-    few = omega (arith, ok.most);
+    few = omega (arith, rest_low a ok gone known.full rest total rest_same total_same, ok.most);
     strong = λ i l. (ok.strong i l).1;
   }
 

@@ -20,11 +20,10 @@ fn allot(sharing: &Sharing) -> Quotas
 {
     let n = sharing.strengths.len();
     let gone = sector_passes::settle(sharing);
-    let rest = sharing.interviews - sector_passes::sum_gone(sharing.minima, &gone);
-    let total = sector_passes::sum_still(sharing.strengths, &gone);
-    let quotas = sector_divide::divide(rest, total, sharing, &gone);
+    let left = sector_passes::left_by(sharing, &gone);
+    let quotas = sector_divide::divide(left, sharing, &gone);
     let wholes = quotas.wholes;
-    let more = rest - sector_passes::sum_still(&wholes[..n], &gone);
+    let more = left.rest - sector_passes::sum_still(&wholes[..n], &gone);
     let remainders = quotas.remainders;
     let mut counts = quotas.counts;
     sector_more::give(&remainders, &gone, n, more as usize, &mut counts);

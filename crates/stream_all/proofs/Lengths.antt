@@ -2,12 +2,11 @@
 use Prim.Native.Nat.{ℕ}
 use mathlib.Core.Path.{◌≡◌, refl}
 use mathlib.Core.Bool.{Bool, true, false, ◌||◌}
-use mathlib.Core.List.{[], ◌∷◌}
 use lib.Dec.{ltb}
-use lib.ListN.{length}
 use Rattle.std.specs.List.{list_any}
 use Rattle.rules.specs.Tests.{◌or◌}
 use Rattle.rules.specs.Writing.{Lists, below, too_short}
+use Rattle.stream_all.specs.Answer.{lengths_of}
 
 six : (k a b c d e : Bool) → (k || (a || (b || (c || (d || (e || false)))))) ≡ (k or a or b or c or d or e)
 unfolding ◌or◌
@@ -20,6 +19,6 @@ six false false false false false true = refl
 six false false false false false false = refl
 
 pub below_as :
-    (n : ℕ) (l : Lists) → list_any (λ m. ltb m n) (length l.kinds ∷ length l.sizes ∷ length l.shares ∷ length l.numbers ∷ length l.randoms ∷ length l.amounts ∷ []) ≡ too_short n l
+    (n : ℕ) (l : Lists) → list_any (λ m. ltb m n) (lengths_of l) ≡ too_short n l
 unfolding below
 below_as n l = six _ _ _ _ _ _

@@ -5,8 +5,8 @@
 ghost use Rattle.std.specs.Prelude.{◌≡◌, false, length, ltb};
 ghost use Rattle.std.specs.List.{list_any};
 ghost use Rattle.rules.specs.Refusals.{judged};
-ghost use Rattle.rules.specs.Writing.{lists, columns, whole_of, rows_read, too_short, written_over, read_all_answer, read_all_lists};
-ghost use Rattle.stream_all.specs.Answer.{answer_from};
+ghost use Rattle.rules.specs.Writing.{columns, whole_of, rows_read, too_short, written_over, read_all_answer, read_all_lists};
+ghost use Rattle.stream_all.specs.Answer.{answer_from, lengths_of, places_of, SameLists};
 
 use refusals::Refusal;
 use stream_row::Row;
@@ -24,28 +24,39 @@ fn count(s: &[u8]) -> Result<usize, Refusal>
     Ok(n)
 }
 
-// Whether one of six lengths is below n.
-fn short(n: usize, lengths: &[usize; 6]) -> bool
-    ensures { result ≡ list_any (λ length. ltb length n) lengths.now }
-{
-    lengths.iter().any(|length| *length < n)
+// The six lists that a stream is read into, one for each column, as the C interface lends them.
+#[derive(Drop)]
+pub struct Places<'a> {
+    pub kinds: &'a mut [u8],
+    pub sizes: &'a mut [u8],
+    pub shares: &'a mut [u16],
+    pub numbers: &'a mut [u32],
+    pub randoms: &'a mut [u32],
+    pub amounts: &'a mut [u64],
+}
+
+impl<'a> Places<'a> {
+    // Whether one of the lists has fewer than n places.
+    fn are_short(&self, n: usize) -> bool
+        ensures { result ≡ list_any (λ length. ltb length n) (lengths_of (places_of self.now)) }
+    {
+        let lengths = [
+            self.kinds.len(),
+            self.sizes.len(),
+            self.shares.len(),
+            self.numbers.len(),
+            self.randoms.len(),
+            self.amounts.len(),
+        ];
+        lengths.iter().any(|length| *length < n)
+    }
 }
 
 // Lays the commands of a stream in six lists with the room.
-// Six parameters and no struct: the C interface lends each list for writing by itself.
-fn fill(
-    s: &[u8],
-    kinds: &mut [u8],
-    sizes: &mut [u8],
-    shares: &mut [u16],
-    numbers: &mut [u32],
-    randoms: &mut [u32],
-    amounts: &mut [u64],
-)
-    requires { too_short (length (rows_read s.now)) (lists kinds.old sizes.old shares.old numbers.old randoms.old amounts.old) ≡ false }
-    ensures { lists kinds.new sizes.new shares.new numbers.new randoms.new amounts.new
-        ≡ written_over 0 (columns (rows_read s.now))
-        (lists kinds.old sizes.old shares.old numbers.old randoms.old amounts.old) }
+fn fill(s: &[u8], places: &mut Places)
+    requires { too_short (length (rows_read s.now)) (places_of places.old) ≡ false }
+    ensures lists_after { places_of places.new ≡ written_over 0 (columns (rows_read s.now)) (places_of places.old) }
+    ensures same { SameLists places.old places.new }
 {
     let mut t = s;
     let mut i: usize = 0;
@@ -56,12 +67,12 @@ fn fill(
             Ok(None) => return,
             Ok(Some(command)) => {
                 let row = Row::from(command);
-                kinds[i] = row.kind;
-                sizes[i] = row.size;
-                shares[i] = row.share;
-                numbers[i] = row.number;
-                randoms[i] = row.random;
-                amounts[i] = row.amount;
+                places.kinds[i] = row.kind;
+                places.sizes[i] = row.size;
+                places.shares[i] = row.share;
+                places.numbers[i] = row.number;
+                places.randoms[i] = row.random;
+                places.amounts[i] = row.amount;
                 t = stream_front::unread(t);
                 i += 1;
             }
@@ -70,33 +81,15 @@ fn fill(
 }
 
 // Reads a whole stream into the first places of six lists; all is judged before a place is written.
-pub fn read_all(
-    s: &[u8],
-    kinds: &mut [u8],
-    sizes: &mut [u8],
-    shares: &mut [u16],
-    numbers: &mut [u32],
-    randoms: &mut [u32],
-    amounts: &mut [u64],
-) -> Result<usize, Refusal>
-    ensures result_value { answer_from result ≡ read_all_answer s.now
-        (lists kinds.old sizes.old shares.old numbers.old randoms.old amounts.old) }
-    ensures amounts_after { lists kinds.new sizes.new shares.new numbers.new randoms.new amounts.new
-        ≡ read_all_lists s.now
-        (lists kinds.old sizes.old shares.old numbers.old randoms.old amounts.old) }
+pub fn read_all(s: &[u8], places: &mut Places) -> Result<usize, Refusal>
+    ensures result_value { answer_from result ≡ read_all_answer s.now (places_of places.old) }
+    ensures lists_after { places_of places.new ≡ read_all_lists s.now (places_of places.old) }
+    ensures same { SameLists places.old places.new }
 {
     let n = count(s)?;
-    let lengths = [
-        kinds.len(),
-        sizes.len(),
-        shares.len(),
-        numbers.len(),
-        randoms.len(),
-        amounts.len(),
-    ];
-    if short(n, &lengths) {
+    if places.are_short(n) {
         return Err(Refusal::ResultBuffer);
     }
-    fill(s, kinds, sizes, shares, numbers, randoms, amounts);
+    fill(s, places);
     Ok(n)
 }

@@ -1,14 +1,15 @@
 -- The bytes of a number in a width, the first the highest, as std's `to_be_bytes` has them.
 use Prim.Native.Nat.{ℕ, zero, suc, ◌+◌, ◌*◌, ◌/◌, ◌%◌, ◌^◌, ◌<◌}
 use mathlib.Core.Path.{◌≡◌, refl, sym, ap, ap₂, ◌∙◌}
-use mathlib.Core.List.{List, [], ◌∷◌, ◌++◌}
+use mathlib.Core.List.{[], ◌∷◌, ◌++◌}
 use lib.ListN.{length, length-append}
 use native.Mathlib.Omega.{arith}
 use native.Mathlib.Nat.{pow-suc}
 use Rattle.std.proofs.Math.Nat.{div-div-eq-div-mul}
 use Rattle.std.specs.Int.{byte_at, bytes_high_first}
 use Rattle.rules.specs.Writing.{bytes_with}
-use Rattle.text_decimal.specs.Put.{Put}
+use Rattle.text_decimal.specs.declared.Writer.{Writer}
+use Rattle.text_decimal.specs.Wrote.{Wrote}
 
 -- one byte more, the lowest
 pub more : (width x : ℕ) → bytes_with (suc width) x ≡ bytes_with width (x / 256) ++ (x % 256 ∷ [])
@@ -50,5 +51,5 @@ bytes_as zero n = sym (nothing n)
 bytes_as (suc k) n = ap (λ l. byte_at k n ∷ l) (bytes_as k n) ∙ sym (first k n)
 
 -- the place after a number that was laid
-pub after : (width x : ℕ) {at p : ℕ} {o o₁ : List ℕ} → Put at (bytes_with width x) o o₁ p → p ≡ at + width
-after width x put = omega (arith, put.place, bytes_length width x)
+pub after : (width x : ℕ) {w v : Writer} → Wrote w (bytes_with width x) v → v.at ≡ w.at + width
+after width x wrote = omega (arith, wrote.put.place, bytes_length width x)

@@ -17,10 +17,11 @@ use Rattle.rules.specs.Writing.{Row, Lists, row, value_in, bytes_with, operand_b
 use Rattle.rules.proofs.Tests.{or_false}
 use Rattle.rules.proofs.Lists.{drop_step, drop_end}
 use Rattle.rules.proofs.Refusals.{then_none, refuse_none}
-use Rattle.text_decimal.specs.Put.{Put}
-use Rattle.text_decimal.proofs.Laying.{in_turn, says}
+use Rattle.text_decimal.specs.declared.Writer.{Writer}
+use Rattle.text_decimal.specs.Wrote.{Wrote}
+use Rattle.text_decimal.proofs.Writing.{then, says}
 use Rattle.stream_write.specs.Answer.{blank}
-use Rattle.stream_put.proofs.Halves.{one_byte, bytes_length}
+use Rattle.stream_put.proofs.Halves.{bytes_length}
 
 -- ---- lengths
 operands_length : (cs : List Column) (r : Row) → length (operand_bytes cs r) ≡ bytes_of cs
@@ -58,19 +59,19 @@ most_width k = go (eqb k 1) (eqb k 2) (eqb k 3) (eqb k 4) (eqb k 5)
 
 -- ---- a command
 -- a command byte laid, and then its operands as the table has them
-pub command_laid : (r : Row) (k : ℕ) (cs : List Column) (bytes : List ℕ) {at p q : ℕ} {o o₁ o₂ : List ℕ}
-    → r.kind ≡ k → operands_of k ≡ cs → operand_bytes cs r ≡ bytes → r.kind < 256
-    → Put at (bytes_with 1 r.kind) o o₁ p → Put p bytes o₁ o₂ q → p ≤ length o → Put at (command_bytes r) o o₂ q
+pub command_laid : (r : Row) (k : ℕ) (cs : List Column) (bytes : List ℕ) {w v u : Writer}
+    → r.kind ≡ k → operands_of k ≡ cs → operand_bytes cs r ≡ bytes
+    → Wrote w (r.kind ∷ []) v → Wrote v bytes u → Wrote w (command_bytes r) u
 unfolding command_bytes
-command_laid r k cs bytes kind table operands byte first second room =
-    let e : bytes_with 1 r.kind ++ bytes ≡ r.kind ∷ operand_bytes (operands_of r.kind) r =
-    ap₂ (λ (a b : List ℕ). a ++ b) (one_byte r.kind byte) (sym operands ∙ ap (λ (ds : List Column). operand_bytes ds r) (sym table ∙ sym (ap operands_of kind))) in
-    says e (in_turn first second room)
+command_laid r k cs bytes kind table operands first second =
+    let e : bytes ≡ operand_bytes (operands_of r.kind) r =
+    sym operands ∙ ap (λ (ds : List Column). operand_bytes ds r) (sym table ∙ sym (ap operands_of kind)) in
+    says (ap (λ (b : List ℕ). r.kind ∷ b) e) (then first second)
 
 -- a command without operands
-pub bare_laid : (r : Row) {at p : ℕ} {o o₁ : List ℕ} → operands_of r.kind ≡ [] → r.kind < 256 → Put at (bytes_with 1 r.kind) o o₁ p → Put at (command_bytes r) o o₁ p
+pub bare_laid : (r : Row) {w v : Writer} → operands_of r.kind ≡ [] → Wrote w (r.kind ∷ []) v → Wrote w (command_bytes r) v
 unfolding command_bytes
-bare_laid r none byte put = says (one_byte r.kind byte ∙ ap (λ (ds : List Column). r.kind ∷ operand_bytes ds r) (sym none)) put
+bare_laid r none wrote = says (ap (λ (ds : List Column). r.kind ∷ operand_bytes ds r) (sym none)) wrote
 
 -- ---- rows
 pub no_stream : stream_of [] ≡ []

@@ -10,15 +10,16 @@ ghost use Rattle.rules.specs.Lists.{sum};
 ghost use Rattle.rules.specs.Stream.{width_of};
 ghost use Rattle.rules.specs.Writing.{bytes_with, command_bytes, rows_in, stream_in, write_refusal, write_answer, write_bytes};
 ghost use Rattle.refusals.specs.Number.{refusal_of};
-ghost use Rattle.text_decimal.specs.Put.{Put};
+ghost use Rattle.text_decimal.specs.Wrote.{Room, Wrote};
 ghost use Rattle.stream_row.specs.Value.{row_from};
 ghost use Rattle.stream_write.specs.Answer.{answer_from, lists_of, lengths_of, OneLength, blank};
 
 use limits::MOST_STREAM;
 use refusals::Refusal;
-use stream_put::{put_byte, put_two_bytes, put_two_words, put_word};
+use stream_put::{put_two_bytes, put_two_words, put_word};
 use stream_read::{Kind, width};
 use stream_row::Row;
+use text_decimal::Writer;
 
 // The six lists of a writer, one for each column as the C interface lends them: command bytes, and the operands.
 #[derive(Clone, Copy)]
@@ -112,62 +113,59 @@ fn judge(lists: &Lists, out: &[u8]) -> Result<(), Refusal>
     Ok(())
 }
 
-// Lays the operands of a unit, and answers the place after them.
-fn put_unit(out: &mut [u8], at: usize, number: u32, amount: u64, random: u32) -> usize
-    requires { at + 16 ≤ length out.old }
-    ensures { Put at (bytes_with 4 number ++ (bytes_with 8 amount ++ bytes_with 4 random)) out.old out.new result }
+// Lays the operands of a unit.
+fn put_unit(w: &mut Writer, number: u32, amount: u64, random: u32)
+    requires { Room w.old 16 }
+    ensures { Wrote w.old (bytes_with 4 number ++ (bytes_with 8 amount ++ bytes_with 4 random)) w.new }
 {
-    let turnover = put_word(out, at, number);
-    let last = put_two_words(out, turnover, amount);
-    put_word(out, last, random)
+    put_word(w, number);
+    put_two_words(w, amount);
+    put_word(w, random);
 }
 
 // Lays a size or a place, and a start or a relative.
-fn put_number(out: &mut [u8], at: usize, size: u8, number: u32) -> usize
-    requires { at + 5 ≤ length out.old }
-    ensures { Put at (bytes_with 1 size ++ bytes_with 4 number) out.old out.new result }
+fn put_number(w: &mut Writer, size: u8, number: u32)
+    requires { Room w.old 5 }
+    ensures { Wrote w.old (bytes_with 1 size ++ bytes_with 4 number) w.new }
 {
-    let next = put_byte(out, at, size);
-    put_word(out, next, number)
+    w.byte(size);
+    put_word(w, number);
 }
 
 // Lays a place and a share.
-fn put_share(out: &mut [u8], at: usize, place: u8, share: u16) -> usize
-    requires { at + 3 ≤ length out.old }
-    ensures { Put at (bytes_with 1 place ++ bytes_with 2 share) out.old out.new result }
+fn put_share(w: &mut Writer, place: u8, share: u16)
+    requires { Room w.old 3 }
+    ensures { Wrote w.old (bytes_with 1 place ++ bytes_with 2 share) w.new }
 {
-    let next = put_byte(out, at, place);
-    put_two_bytes(out, next, share)
+    w.byte(place);
+    put_two_bytes(w, share);
 }
 
-// Lays a command from the place at on, and answers the place after it.
+// Lays a command.
 // By its byte and not by a kind: a row is what the lists for C hold, and that may be no kind.
-fn put_command(out: &mut [u8], at: usize, row: Row) -> usize
-    requires { at + width_of row.kind ≤ length out.old }
-    ensures { Put at (command_bytes (row_from row)) out.old out.new result }
+fn put_command(w: &mut Writer, row: Row)
+    requires { Room w.old (width_of row.kind) }
+    ensures { Wrote w.old (command_bytes (row_from row)) w.new }
 {
-    let k = row.kind;
-    let next = put_byte(out, at, k);
-    match k {
-        1 => put_unit(out, next, row.number, row.amount, row.random),
-        2 => put_number(out, next, row.size, row.number),
-        3 => put_share(out, next, row.size, row.share),
-        4 => put_number(out, next, row.size, row.number),
-        5 => put_two_words(out, next, row.amount),
-        _ => next,
+    w.byte(row.kind);
+    match row.kind {
+        1 => put_unit(w, row.number, row.amount, row.random),
+        2 => put_number(w, row.size, row.number),
+        3 => put_share(w, row.size, row.share),
+        4 => put_number(w, row.size, row.number),
+        5 => put_two_words(w, row.amount),
+        _ => {}
     }
 }
 
-// Lays the commands of lists that no refusal stops at the front of the buffer, and answers the bytes laid.
-fn put_all(lists: &Lists, out: &mut [u8]) -> usize
-    requires { write_refusal (lists_of lists.now) out.old ≡ 0 }
-    ensures { Put 0 (stream_in (lists_of lists.now)) out.old out.new result }
+// Lays the commands of lists of one length.
+fn put_all(lists: &Lists, w: &mut Writer)
+    requires { OneLength (lists_of lists.now) × Room w.old (length (stream_in (lists_of lists.now))) }
+    ensures { Wrote w.old (stream_in (lists_of lists.now)) w.new }
 {
-    let mut at: usize = 0;
     for i in 0..lists.kinds.len() {
-        at = put_command(out, at, lists.row(i));
+        put_command(w, lists.row(i));
     }
-    at
 }
 
 // Writes the stream of a list of commands at the front of the buffer; all is judged before a byte is written.
@@ -176,5 +174,7 @@ pub fn write(lists: &Lists, out: &mut [u8]) -> Result<usize, Refusal>
     ensures out_after { out.new ≡ write_bytes (lists_of lists.now) out.old }
 {
     judge(lists, out)?;
-    Ok(put_all(lists, out))
+    let mut w = Writer { out, at: 0 };
+    put_all(lists, &mut w);
+    Ok(w.at)
 }

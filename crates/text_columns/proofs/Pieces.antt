@@ -1,52 +1,41 @@
 -- How long texts are, and the pieces that they are laid in.
-use Prim.Native.Nat.{ℕ, zero, suc, ◌+◌, ◌-◌, ◌/◌, ◌%◌, ◌^◌, ◌≤◌, ◌<◌}
+use Prim.Native.Nat.{max, ℕ, zero, suc, ◌+◌, ◌*◌, ◌-◌, ◌/◌, ◌%◌, ◌^◌, ◌≤◌, ◌<◌}
 use mathlib.Core.Path.{◌≡◌, refl, sym, ap, ◌∙◌}
 use mathlib.Core.Bool.{Bool, true, false}
 use mathlib.Core.List.{List, [], ◌∷◌, ◌++◌, append_assoc}
-use lib.ListN.{length, take, drop, replicate, length-append, length-replicate, take-append-drop}
+use lib.ListN.{length, take, replicate, length-append, length-replicate}
 use native.Mathlib.Omega.{arith}
-use native.Mathlib.Nat.{add-zero}
+use native.Mathlib.Nat.{pow-zero, pow-suc}
 use Rattle.rules.specs.Limits.{name_columns, number_columns, figure_decimals}
 use Rattle.rules.specs.Sheet.{last_digits, with_decimals, left_in, right_in}
 use Rattle.rules.proofs.Tests.{by_order}
-use Rattle.text_decimal.specs.Put.{digits_of, laid_at, Put}
+use Rattle.text_decimal.specs.Put.{digits_of}
 use Rattle.text_decimal.proofs.Digits.{on, one_digit, one_more_length}
 use Rattle.text_columns.specs.Signed.{sign_of, signed_text}
-
--- nothing laid
-pub nothing_at : (at : ℕ) (o : List ℕ) → Put at [] o o at
-unfolding laid_at
-nothing_at at o = record {
-  place = sym (add-zero at);
-  bytes = sym (ap (λ (n : ℕ). take at o ++ drop n o) (add-zero at) ∙ take-append-drop at o);
-}
 
 -- ---- digits
 pub digits_one : (n : ℕ) → n < 10 → length (digits_of n) ≡ 1
 digits_one n h = ap length (one_digit n h)
 
-pub digits_two : (n : ℕ) → 10 ≤ n → n < 100 → length (digits_of n) ≡ 2
-digits_two n h k =
-    let tenth : n / 10 < 10 = omega arith in
-    omega (arith, one_more_length n h (omega arith), digits_one (n / 10) tenth)
+some_power : (k : ℕ) → 0 < 10 ^ k
+some_power zero = omega (arith, pow-zero 10)
+some_power (suc k) = omega (arith, pow-suc 10 k, some_power k)
 
-pub digits_three : (n : ℕ) → 100 ≤ n → n < 1000 → length (digits_of n) ≡ 3
-digits_three n h k =
-    let low : 10 ≤ n / 10 = omega arith in
-    let high : n / 10 < 100 = omega arith in
-    omega (arith, one_more_length n (omega arith) (omega arith), digits_two (n / 10) low high)
+-- as many as its highest power of ten says
+pub digits_by : (k n : ℕ) → 10 ^ k ≤ max n 1 → n < 10 * 10 ^ k → n < 2 ^ 64 → length (digits_of n) ≡ k + 1
+digits_by zero n low high fits = digits_one n (omega (arith, pow-zero 10))
+digits_by (suc k) n low high fits =
+    let p = pow-suc 10 k in
+    let some = some_power k in
+    let h : 10 ≤ n = omega arith in
+    omega (arith, one_more_length n h fits, digits_by k (n / 10) (omega arith) (omega arith) (omega arith))
 
-pub digits_four : (n : ℕ) → 1000 ≤ n → n < 10000 → length (digits_of n) ≡ 4
-digits_four n h k =
-    let low : 100 ≤ n / 10 = omega arith in
-    let high : n / 10 < 1000 = omega arith in
-    omega (arith, one_more_length n (omega arith) (omega arith), digits_three (n / 10) low high)
-
-pub digits_few : (n : ℕ) → n < 10000 → length (digits_of n) ≤ 4
-digits_few n h =
-    by_order n 10 (λ a. omega (arith, digits_one n a)) (λ b.
-    by_order n 100 (λ a. omega (arith, digits_two n b a)) (λ d.
-    by_order n 1000 (λ a. omega (arith, digits_three n d a)) (λ e. omega (arith, digits_four n e h))))
+pub digits_few : (k n : ℕ) → n < 10 * 10 ^ k → n < 2 ^ 64 → length (digits_of n) ≤ k + 1
+digits_few zero n high fits = omega (arith, digits_one n (omega (arith, pow-zero 10)))
+digits_few (suc k) n high fits =
+    let p = pow-suc 10 k in
+    by_order n 10 (λ h. omega (arith, digits_one n h))
+    (λ h. omega (arith, one_more_length n h fits, digits_few k (n / 10) (omega arith) (omega arith)))
 
 -- ---- decimals
 pub last_none : (n : ℕ) → last_digits 0 n ≡ []
@@ -72,13 +61,13 @@ decimals_length k n = omega (arith, simp length-append at (ap length (decimals_p
 pub signed_length : (negative : Bool) (k n : ℕ) → length (signed_text negative k n) ≡ length (sign_of negative) + (length (digits_of (n / 10 ^ k)) + 1 + k)
 signed_length negative k n = length-append (sign_of negative) (with_decimals k n) ∙ ap (λ (m : ℕ). length (sign_of negative) + m) (decimals_length k n)
 
-sign_length : (negative : Bool) → length (sign_of negative) ≤ 1
+pub sign_length : (negative : Bool) → length (sign_of negative) ≤ 1
 sign_length true = omega arith
 sign_length false = omega arith
 
 -- a number below 10,000 with at most a figure's decimals and a sign does not overflow its columns
 pub number_fits : (negative : Bool) (k n : ℕ) → n / 10 ^ k < 10000 → k ≤ figure_decimals → length (signed_text negative k n) ≤ number_columns
-number_fits negative k n h few = omega (arith, signed_length negative k n, digits_few (n / 10 ^ k) h, sign_length negative)
+number_fits negative k n h few = omega (arith, signed_length negative k n, digits_few 3 (n / 10 ^ k) (omega arith) (omega arith), sign_length negative)
 
 -- ---- spaces
 -- `[b' '; 20]`, of which so many are taken

@@ -1,10 +1,11 @@
 -- Texts laid one after the other are one text laid, so a line is laid piece by piece.
 use Prim.Native.Nat.{ℕ, ◌+◌, ◌≤◌, ◌<◌}
-use mathlib.Core.Path.{◌≡◌, refl, sym, ap, subst, ◌∙◌}
+use mathlib.Core.Path.{◌≡◌, sym, ap, subst, ◌∙◌}
 use mathlib.Core.List.{List, [], ◌∷◌, ◌++◌, append_assoc}
-use lib.ListN.{length, take, drop, set, length-append}
+use lib.ListN.{length, take, drop, set, length-append, length-drop, take-append-drop}
 use lib.Seq.{set_split, take_at, drop-append-add, drop-drop, length-take-le}
 use native.Mathlib.Omega.{arith}
+use native.Mathlib.Nat.{add-zero}
 use native.Mathlib.Numerals.{add-one}
 use Rattle.text_decimal.specs.Put.{laid_at, Put}
 
@@ -14,6 +15,19 @@ unfolding laid_at
 byte buffer at b room =
     let h : at < length buffer = omega arith in
     set_split buffer at b h ∙ ap (λ (n : ℕ). take at buffer ++ (b ∷ drop n buffer)) (sym (add-one at))
+
+-- a buffer with a text in it is as long as it was
+pub as_long : (buffer text : List ℕ) (at : ℕ) → at + length text ≤ length buffer → length (laid_at at text buffer) ≡ length buffer
+unfolding laid_at
+as_long buffer text at room =
+    let front : length (take at buffer) ≡ at = length-take-le at buffer (omega arith) in
+    omega (
+      arith,
+      front,
+      length-append (take at buffer) (text ++ drop (at + length text) buffer),
+      length-append text (drop (at + length text) buffer),
+      length-drop (at + length text) buffer,
+    )
 
 module _ (buffer a : List ℕ) (at : ℕ) (room : at + length a ≤ length buffer) where
   abbrev front : List ℕ
@@ -67,12 +81,21 @@ in_turn {at} {p} {q} {a} {b} {o} {o₁} {o₂} first second room =
 pub says : {at p : ℕ} {a b o o₁ : List ℕ} → a ≡ b → Put at a o o₁ p → Put at b o o₁ p
 says {at} {p} {a} {b} {o} {o₁} e put = subst (λ (l : List ℕ). Put at l o o₁ p) e put
 
--- nothing laid yet
-pub nothing : (o : List ℕ) → Put 0 [] o o 0
+-- nothing laid
+pub nothing_at : (at : ℕ) (o : List ℕ) → Put at [] o o at
 unfolding laid_at
-nothing o = record { place = refl; bytes = refl }
+nothing_at at o =
+    record {
+      place = sym (add-zero at);
+      bytes = sym (ap (λ (n : ℕ). take at o ++ drop n o) (add-zero at) ∙ take-append-drop at o);
+    }
 
 -- a text laid at the front
+pub counted : {text o o₁ : List ℕ} {r : ℕ} → Put 0 text o o₁ r → r ≡ length text
+counted {text} put =
+    let start : 0 + length text ≡ length text = omega arith in
+    put.place ∙ start
+
 pub fronted : {text o o₁ : List ℕ} {r : ℕ} → Put 0 text o o₁ r → o₁ ≡ text ++ drop (length text) o
 unfolding laid_at
 fronted {text} {o} put =

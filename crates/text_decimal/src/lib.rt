@@ -3,62 +3,82 @@
 
 ghost use Rattle.std.specs.Prelude.{◌∷◌, [], ◌+◌, ◌≤◌, length};
 ghost use Rattle.rules.specs.Lines.{line_of, line_of2};
-ghost use Rattle.text_decimal.specs.Put.{digits_of, field_of, start_of, Put};
+ghost use Rattle.text_decimal.specs.Put.{digits_of, field_of, start_of};
+ghost use Rattle.text_decimal.specs.Wrote.{Room, Wrote};
 
-// Lays b at the place at, and answers the place after it.
-pub fn put_byte(out: &mut [u8], at: usize, b: u8) -> usize
-    requires { at + 1 ≤ length out.old }
-    ensures { Put at (b ∷ []) out.old out.new result }
-{
-    out[at] = b;
-    at + 1
+// A lent buffer, and the place that the next byte is laid at.
+#[derive(Drop)]
+pub struct Writer<'a> {
+    pub out: &'a mut [u8],
+    pub at: usize,
 }
 
-// Lays the digits of n from the place at on, and answers the place after them.
-pub fn put_decimal(out: &mut [u8], at: usize, n: u64) -> usize
-    requires { at + length (digits_of n) ≤ length out.old }
-    ensures { Put at (digits_of n) out.old out.new result }
-{
-    if n < 10 {
-        return put_byte(out, at, 48 + n as u8);
+impl<'a> Writer<'a> {
+    // Lays a byte.
+    pub fn byte(&mut self, b: u8)
+        requires { Room self.old 1 }
+        ensures { Wrote self.old (b ∷ []) self.new }
+    {
+        self.out[self.at] = b;
+        self.at += 1;
     }
-    let last = put_decimal(out, at, n / 10);
-    put_byte(out, last, 48 + (n % 10) as u8)
-}
 
-// Lays a space and the digits of n.
-fn put_field(out: &mut [u8], at: usize, n: u64) -> usize
-    requires { at + length (field_of n) ≤ length out.old }
-    ensures { Put at (field_of n) out.old out.new result }
-{
-    let number = put_byte(out, at, b' ');
-    put_decimal(out, number, n)
-}
+    // Lays the digits of n.
+    pub fn decimal(&mut self, n: u64)
+        requires { Room self.old (length (digits_of n)) }
+        ensures { Wrote self.old (digits_of n) self.new }
+    {
+        if n < 10 {
+            return self.byte(48 + n as u8);
+        }
+        self.decimal(n / 10);
+        self.byte(48 + (n % 10) as u8);
+    }
 
-// Lays a letter, a space and the digits of n.
-fn put_start(out: &mut [u8], at: usize, letter: u8, n: u64) -> usize
-    requires { at + length (start_of letter n) ≤ length out.old }
-    ensures { Put at (start_of letter n) out.old out.new result }
-{
-    let field = put_byte(out, at, letter);
-    put_field(out, field, n)
-}
+    // Lays a space and the digits of n.
+    fn field(&mut self, n: u64)
+        requires { Room self.old (length (field_of n)) }
+        ensures { Wrote self.old (field_of n) self.new }
+    {
+        self.byte(b' ');
+        self.decimal(n);
+    }
 
-// Lays a line of a letter and a number from the place at on.
-pub fn put_line(out: &mut [u8], at: usize, letter: u8, a: u64) -> usize
-    requires { at + length (line_of letter a) ≤ length out.old }
-    ensures { Put at (line_of letter a) out.old out.new result }
-{
-    let end = put_start(out, at, letter, a);
-    put_byte(out, end, b'\n')
-}
+    // Lays a letter, a space and the digits of n.
+    fn start(&mut self, letter: u8, n: u64)
+        requires { Room self.old (length (start_of letter n)) }
+        ensures { Wrote self.old (start_of letter n) self.new }
+    {
+        self.byte(letter);
+        self.field(n);
+    }
 
-// Lays a line of a letter and two numbers from the place at on.
-pub fn put_line2(out: &mut [u8], at: usize, letter: u8, a: u64, b: u64) -> usize
-    requires { at + length (line_of2 letter a b) ≤ length out.old }
-    ensures { Put at (line_of2 letter a b) out.old out.new result }
-{
-    let second = put_start(out, at, letter, a);
-    let after = put_field(out, second, b);
-    put_byte(out, after, b'\n')
+    // Lays a line of a letter and a number.
+    pub fn line(&mut self, letter: u8, a: u64)
+        requires { Room self.old (length (line_of letter a)) }
+        ensures { Wrote self.old (line_of letter a) self.new }
+    {
+        self.start(letter, a);
+        self.byte(b'\n');
+    }
+
+    // Lays a line of a letter and two numbers.
+    pub fn line2(&mut self, letter: u8, first: u64, second: u64)
+        requires { Room self.old (length (line_of2 letter first second)) }
+        ensures { Wrote self.old (line_of2 letter first second) self.new }
+    {
+        self.start(letter, first);
+        self.field(second);
+        self.byte(b'\n');
+    }
+
+    // Lays bytes as they are.
+    pub fn bytes(&mut self, bytes: &[u8])
+        requires { Room self.old (length bytes.now) }
+        ensures { Wrote self.old bytes.now self.new }
+    {
+        let end = self.at + bytes.len();
+        self.out[self.at..end].copy_from_slice(bytes);
+        self.at = end;
+    }
 }

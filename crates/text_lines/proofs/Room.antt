@@ -7,7 +7,9 @@ use native.Mathlib.Omega.{arith}
 use borrow.Author.Tests.{lt-ltb, le-ltb}
 use Rattle.rules.specs.Lines.{line_of, line_of2}
 use Rattle.text_decimal.specs.Put.{Put}
-use Rattle.text_decimal.proofs.Laying.{fronted}
+use Rattle.text_decimal.specs.declared.Writer.{Writer}
+use Rattle.text_decimal.specs.Wrote.{Wrote}
+use Rattle.text_decimal.proofs.Laying.{counted, fronted}
 use Rattle.text_decimal.proofs.Digits.{digits_length, line_length, line2_length}
 use Rattle.text_lines.specs.Laid.{line_room, laid, laid_count, Lays}
 
@@ -18,16 +20,14 @@ line_fits letter a at n h = omega (arith, line_length letter a, digits_length a)
 pub line2_fits : (letter a b at n : ℕ) → at + line_room ≤ n → at + length (line_of2 letter a b) ≤ n
 line2_fits letter a b at n h = omega (arith, line2_length letter a b, digits_length a, digits_length b)
 
-pub line2_next : (letter a b : ℕ) {at r : ℕ} {o o₁ : List ℕ} → Put at (line_of2 letter a b) o o₁ r → r ≤ at + line_room
-line2_next letter a b {at} put = omega (arith, put.place, line2_fits letter a b at (at + line_room) (omega arith))
+pub line2_next : (letter a b : ℕ) {w v : Writer} → Wrote w (line_of2 letter a b) v → v.at ≤ w.at + line_room
+line2_next letter a b {w} laid = omega (arith, laid.put.place, line2_fits letter a b w.at (w.at + line_room) (omega arith))
 
 module _ (room : ℕ) (text o : List ℕ) where
-  -- a text laid at the front of a buffer with the room
-  pub at_front : {o₁ : List ℕ} {r : ℕ} → room ≤ length o → Put 0 text o o₁ r → Lays room text o o₁ r
+  -- a text laid at the front of a buffer with the room, which is then given back
+  pub at_front : {o₁ back : List ℕ} {r : ℕ} → room ≤ length o → Put 0 text o o₁ r → back ≡ o₁ → Lays room text o back r
   unfolding laid laid_count
-  at_front h put =
-      let start : 0 + length text ≡ length text = omega arith in
-      (simp (le-ltb _ _ h) (put.place ∙ start), simp (le-ltb _ _ h) (fronted put))
+  at_front h put e = (simp (le-ltb _ _ h) (counted put), simp (le-ltb _ _ h) (e ∙ fronted put))
 
   -- a buffer without the room stays
   pub no_room : length o < room → Lays room text o o 0

@@ -4,10 +4,10 @@
 
 ghost use Rattle.std.specs.Prelude.{◌*◌, ◌≤◌, length};
 ghost use Rattle.rules.specs.Lines.{line_of, panel_lines, quarter_line, close_line, refusal_line};
-ghost use Rattle.text_decimal.specs.Put.{Put};
+ghost use Rattle.text_decimal.specs.Wrote.{Wrote, Room};
 ghost use Rattle.text_lines.specs.Laid.{line_room, Lays, PanelLaid};
 
-use text_decimal::{put_line, put_line2};
+use text_decimal::Writer;
 
 // Bytes of the longest line.
 pub const LINE_ROOM: usize = 44;
@@ -22,7 +22,9 @@ fn figure_line(out: &mut [u8], letter: u8, figure: u64) -> usize
     if out.len() < LINE_ROOM {
         return 0;
     }
-    put_line(out, 0, letter, figure)
+    let mut w = Writer { out, at: 0 };
+    w.line(letter, figure);
+    w.at
 }
 
 // `Q F`.
@@ -46,19 +48,19 @@ pub fn refusal_line(out: &mut [u8], number: u8, offset: usize) -> usize
     if out.len() < LINE_ROOM {
         return 0;
     }
-    put_line2(out, 0, b'R', u64::from(number), offset as u64)
+    let mut w = Writer { out, at: 0 };
+    w.line2(b'R', u64::from(number), offset as u64);
+    w.at
 }
 
-// Lays the lines of a panel at the front.
-fn put_panel(out: &mut [u8], numbers: &[u32], weights: &[u64]) -> usize
-    requires { line_room * length numbers.now ≤ length out.old }
-    ensures { Put 0 (panel_lines numbers.now weights.now) out.old out.new result }
+// Lays the lines of a panel.
+fn put_panel(w: &mut Writer, numbers: &[u32], weights: &[u64])
+    requires { Room w.old (line_room * length numbers.now) }
+    ensures { Wrote w.old (panel_lines numbers.now weights.now) w.new }
 {
-    let mut at: usize = 0;
     for (number, weight) in numbers.iter().zip(weights) {
-        at = put_line2(out, at, b'P', u64::from(*number), *weight);
+        w.line2(b'P', u64::from(*number), *weight);
     }
-    at
 }
 
 // `P number weight` for each panel unit.
@@ -68,5 +70,7 @@ pub fn panel_lines(out: &mut [u8], numbers: &[u32], weights: &[u64]) -> usize
     if out.len() / LINE_ROOM < numbers.len() {
         return 0;
     }
-    put_panel(out, numbers, weights)
+    let mut w = Writer { out, at: 0 };
+    put_panel(&mut w, numbers, weights);
+    w.at
 }

@@ -6,7 +6,7 @@ ghost use Rattle.rules.specs.Limits.{name_columns, line_bytes, highest_index, lo
 ghost use Rattle.rules.specs.Tests.{outside};
 ghost use Rattle.rules.specs.Lists.{any_of};
 ghost use Rattle.rules.specs.Sheet.{bad_name, bad_line, sheet_answer, sheet_bytes};
-ghost use Rattle.text_decimal.specs.Put.{Put};
+ghost use Rattle.text_decimal.specs.Wrote.{Room, Wrote};
 ghost use Rattle.text_change.specs.Values.{Sized};
 ghost use Rattle.text_sheet.specs.Answer.{pieces_of, answer_from};
 
@@ -17,7 +17,7 @@ use limits::{
 use refusals::Refusal;
 use text_change::{Change, moved};
 use text_columns::{put_left, put_right};
-use text_decimal::put_byte;
+use text_decimal::Writer;
 
 // A figure in units of its last decimal has this many in an index point, and a change this many in a percent.
 const FIGURE_UNIT: u64 = 10_000_000;
@@ -51,15 +51,15 @@ fn bad_line(name: &[u8], new: u64, old: u64, room: usize) -> bool
 }
 
 // Lays the line: name, figure, change in hundredths, line feed.
-fn lay(out: &mut [u8], name: &[u8], new: u64, change: i64) -> usize
-    requires { (length name.now ≤ name_columns) × (new ≤ highest_index) × Sized change × (line_bytes ≤ length out.old) }
-    ensures { Put 0 (pieces_of name.now new change) out.old out.new result }
+fn lay(w: &mut Writer, name: &[u8], new: u64, change: i64)
+    requires { (length name.now ≤ name_columns) × (new ≤ highest_index) × Sized change × Room w.old line_bytes }
+    ensures { Wrote w.old (pieces_of name.now new change) w.new }
 {
-    let figure = put_left(out, 0, name);
-    let second = put_right(out, figure, false, new, FIGURE_UNIT, FIGURE_DECIMALS);
+    put_left(w, name);
+    put_right(w, false, new, FIGURE_UNIT, FIGURE_DECIMALS);
     let size = change.unsigned_abs();
-    let end = put_right(out, second, change < 0, size, CHANGE_UNIT, CHANGE_DECIMALS);
-    put_byte(out, end, b'\n')
+    put_right(w, change < 0, size, CHANGE_UNIT, CHANGE_DECIMALS);
+    w.byte(b'\n');
 }
 
 // One line in the first 49 bytes of the buffer: the sector's name, its figure, and the change against the year before.
@@ -71,6 +71,7 @@ pub fn line(name: &[u8], new: u64, old: u64, out: &mut [u8]) -> Result<Change, R
         return Err(Refusal::SheetLine);
     }
     let change = moved(new, old);
-    lay(out, name, new, change.hundredths);
+    let mut w = Writer { out, at: 0 };
+    lay(&mut w, name, new, change.hundredths);
     Ok(change)
 }

@@ -16,4 +16,4 @@ pub record Divided (rest total : ℕ) (a : Sharing) (gone : List Bool) (counts w
   pub remainder : Laid (sectors a) (remainder_by rest total a gone) i remainders
 
 abbrev pub invariant-loop-i : goal.invariant-loop-i
-invariant-loop-i l = Divided l.rest l.total (sharing_of l.sharing) l.gone l.counts l.wholes l.remainders l.i
+invariant-loop-i l = Divided l.left.rest l.left.total (sharing_of l.sharing) l.gone l.counts l.wholes l.remainders l.i

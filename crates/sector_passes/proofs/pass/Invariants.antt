@@ -17,4 +17,4 @@ pub record Turned (rest total : ℕ) (a : Sharing) (gone₀ gone : List Bool) (l
   pub marks : Passed (still_in gone₀) (is_below rest total a) gone i leave
 
 abbrev pub invariant-loop-i : goal.invariant-loop-i
-invariant-loop-i l = Turned l.rest l.total (sharing_of l.sharing) l.initial.gone l.gone l.leave l.i
+invariant-loop-i l = Turned l.left.rest l.left.total (sharing_of l.sharing) l.initial.gone l.gone l.leave l.i

@@ -1,11 +1,9 @@
 -- A byte and then two.
+use mathlib.Core.Path.{sym}
 use native.Mathlib.Omega.{arith}
-use Rattle.text_decimal.proofs.Laying.{in_turn}
-use Rattle.stream_put.proofs.Halves.{after}
+use Rattle.text_decimal.proofs.Writing.{then, says}
+use Rattle.stream_put.proofs.Halves.{one_byte}
 use Rattle.stream_write.proofs.put_share.Goals as goal
 
-pub put_two_bytes-requires : goal.put_two_bytes-requires
-put_two_bytes-requires c = omega (arith, after 1 _ c.put_byte-next.ensures)
-
 pub returns : goal.returns
-returns c = in_turn c.put_byte-next.ensures c.put_two_bytes.ensures (omega (arith, after 1 _ c.put_byte-next.ensures))
+returns c = then (says (sym (one_byte c.args.place (omega arith))) c.byte.ensures) c.put_two_bytes.ensures

@@ -7,7 +7,7 @@ use lib.ListN.{length, replicate, length-append, length-replicate}
 use Rattle.rules.specs.Limits.{number_columns, figure_decimals}
 use Rattle.rules.specs.Sheet.{right_in, with_decimals}
 use Rattle.text_decimal.specs.Put.{digits_of}
-use Rattle.text_decimal.proofs.Laying.{in_turn, says}
+use Rattle.text_decimal.proofs.Writing.{then, says}
 use Rattle.text_columns.specs.Signed.{sign_of, signed_text}
 use Rattle.text_columns.proofs.Pieces.{signed_length, number_fits}
 use Rattle.text_columns.proofs.put_right.Goals as goal
@@ -28,14 +28,10 @@ pub put_with_decimals-requires : goal.put_with_decimals-requires
 put_with_decimals-requires c = let fit = sized c.args.negative c.args.n c.args.unit c.args.k _ c.requires.0 c.requires.2 c.requires.3 c.columns-size.ensures in
     let both = length-append (sign_of c.args.negative) (with_decimals c.args.k c.args.n) in
     let spaces = length-replicate {A = ℕ} (number_columns - c.columns-size.result) 32 in
-    (c.requires.0, c.requires.1, omega (arith, fit.0, fit.1, both, spaces, c.put_spaces-start.ensures.place, c.put_sign-number.ensures.place))
+    (c.requires.0, c.requires.1, omega (arith, fit.0, fit.1, both, spaces))
 
 pub returns : goal.returns
 unfolding right_in
 returns c = let fit = sized c.args.negative c.args.n c.args.unit c.args.k _ c.requires.0 c.requires.2 c.requires.3 c.columns-size.ensures in
-    let both = length-append (sign_of c.args.negative) (with_decimals c.args.k c.args.n) in
-    let spaces = length-replicate {A = ℕ} (number_columns - c.columns-size.result) 32 in
-    let front = says (ap (λ (n : ℕ). replicate {A = ℕ} (number_columns - n) 32) fit.0) c.put_spaces-start.ensures in
-    let place-2 = c.put_sign-number.ensures.place in
-    let text = in_turn c.put_sign-number.ensures c.put_with_decimals.ensures (omega (arith, fit.0, fit.1, both, spaces, c.put_spaces-start.ensures.place, place-2)) in
-    in_turn front text (omega (arith, fit.0, fit.1, spaces, c.put_spaces-start.ensures.place))
+    let front = says (ap (λ (n : ℕ). replicate {A = ℕ} (number_columns - n) 32) fit.0) c.put_spaces.ensures in
+    then front (then c.put_sign.ensures c.put_with_decimals.ensures)

@@ -8,7 +8,7 @@ use mir.Syntax.{w64}
 use mir.Facts.{to_z-of_z}
 use Rattle.rules.specs.Limits.{name_columns, number_columns, change_decimals}
 use Rattle.rules.specs.Sheet.{right_in, change_text}
-use Rattle.text_decimal.proofs.Laying.{in_turn, says}
+use Rattle.text_decimal.proofs.Writing.{then, says}
 use Rattle.text_columns.specs.Signed.{signed_text}
 use Rattle.text_columns.proofs.Pieces.{left_length}
 use Rattle.text_sheet.proofs.Columns.{change_text_lem, figure_columns, change_columns}
@@ -21,32 +21,27 @@ printed change z size e f =
     ap (right_in number_columns)
     (ap₂ (λ (y : ℤ) (n : ℕ). signed_text (lt_z y (pos 0)) change_decimals n) e (f ∙ ap nat_abs e) ∙ change_text_lem change)
 
-pub put_right-second-requires : goal.put_right-second-requires
-put_right-second-requires c = let left = left_length name_columns c.args.name.now c.requires.0 in
-    (refl, omega arith, omega arith, omega arith, omega (arith, left, c.put_left-figure.ensures.place))
+pub put_right-requires : goal.put_right-requires
+put_right-requires c = let left = left_length name_columns c.args.name.now c.requires.0 in
+    (refl, omega arith, omega arith, omega arith, omega (arith, left))
 
-pub put_right-end-requires : goal.put_right-end-requires
-put_right-end-requires c = let left = left_length name_columns c.args.name.now c.requires.0 in
+pub put_right-requires-2 : goal.put_right-requires-2
+put_right-requires-2 c = let left = left_length name_columns c.args.name.now c.requires.0 in
     let wide = figure_columns c.args.new c.requires.1 in
     let same = to_z-of_z {w = w64} {z = c.args.change} c.ranges.change in
     let size = c.unsigned_abs-size.ensures.value ∙ ap nat_abs same in
-    (refl, omega arith, omega (arith, size, c.requires.2), omega arith, omega (arith, left, wide, c.put_left-figure.ensures.place, c.put_right-second.ensures.place))
+    (refl, omega arith, omega (arith, size, c.requires.2), omega arith, omega (arith, left, wide))
 
-pub put_byte-requires : goal.put_byte-requires
-put_byte-requires c = let left = left_length name_columns c.args.name.now c.requires.0 in
+pub byte-requires : goal.byte-requires
+byte-requires c = let left = left_length name_columns c.args.name.now c.requires.0 in
     let wide = figure_columns c.args.new c.requires.1 in
     let wide-2 = change_columns c.args.change c.requires.2 in
     let same = to_z-of_z {w = w64} {z = c.args.change} c.ranges.change in
-    let put = says (printed c.args.change _ _ same c.unsigned_abs-size.ensures.value) c.put_right-end.ensures in
-    omega (arith, left, wide, wide-2, c.put_left-figure.ensures.place, c.put_right-second.ensures.place, put.place)
+    let put = says (printed c.args.change _ _ same c.unsigned_abs-size.ensures.value) c.put_right-2.ensures in
+    omega (arith, left, wide, wide-2, put.put.place)
 
 pub returns : goal.returns
-returns c = let left = left_length name_columns c.args.name.now c.requires.0 in
-    let wide = figure_columns c.args.new c.requires.1 in
-    let wide-2 = change_columns c.args.change c.requires.2 in
+returns c =
     let same = to_z-of_z {w = w64} {z = c.args.change} c.ranges.change in
-    let put = says (printed c.args.change _ _ same c.unsigned_abs-size.ensures.value) c.put_right-end.ensures in
-    let place-2 = c.put_right-second.ensures.place in
-    let end = in_turn put c.put_byte.ensures (omega (arith, left, wide, wide-2, c.put_left-figure.ensures.place, place-2, put.place)) in
-    let numbers = in_turn c.put_right-second.ensures end (omega (arith, left, wide, c.put_left-figure.ensures.place, place-2)) in
-    in_turn c.put_left-figure.ensures numbers (omega (arith, left, c.put_left-figure.ensures.place))
+    let change = says (printed c.args.change _ _ same c.unsigned_abs-size.ensures.value) c.put_right-2.ensures in
+    then c.put_left.ensures (then c.put_right.ensures (then change c.byte.ensures))

@@ -6,7 +6,8 @@ use mir.Facts.{to_z-of_z}
 use Rattle.std.proofs.Common.{rules}
 use Rattle.rules.specs.Refusals.{Judged, refuse}
 use Rattle.rules.specs.Sheet.{Change, sheet_refusal, sheet_answer, sheet_bytes}
-use Rattle.text_decimal.proofs.Laying.{fronted, says}
+use Rattle.text_decimal.proofs.Laying.{fronted}
+use Rattle.text_decimal.proofs.Writing.{says}
 use Rattle.text_sheet.specs.Answer.{pieces_of}
 use Rattle.text_sheet.proofs.Columns.{accepted, line_pieces}
 use Rattle.text_sheet.proofs.line.Goals as goal
@@ -33,4 +34,4 @@ returns c = let good = sym c.bad_line.ensures ∙ c.if-bad_line.false in
     let laid = rw same at c.lay.ensures in
     let told = c.moved-change.ensures.result_value in
     let text = ap (λ (x : Change). pieces_of name c.args.new x.hundredths) told ∙ line_pieces name c.args.new c.args.old in
-    record { result_value = rw good (ap Judged.given told); out_after = rw good (fronted (says text laid)) }
+    record { result_value = rw good (ap Judged.given told); out_after = rw good (search rules ∙ fronted (says text laid).put) }
