@@ -6,11 +6,11 @@ use Prim.Native.Nat.{ℕ, zero, suc, ◌+◌, ◌<◌, ◌≤◌}
 use native.Mathlib.Omega.{arith}
 use borrow.Author.Tests.{eqb-true, eq-eqb, ne_eqb, not-false}
 use lib.Dec.{eqb}
-use lib.ListN.{length, get_or, drop}
+use lib.ListN.{length, get_or, drop, drop_of_length-le}
 use Rattle.rules.specs.Tests.{◌or◌}
 use Rattle.rules.specs.Lists.{any_of, any_pair}
 use Rattle.rules.specs.Panel.{of_sampled, sampled_base}
-use Rattle.rules.proofs.Lists.{drop_step, drop_end}
+use Rattle.rules.proofs.Lists.{drop_step}
 
 abbrev pub left : ℕ → List ℕ → List ℕ → List ℕ
 left i ms xs = of_sampled (drop i ms) (drop i xs)
@@ -36,7 +36,7 @@ module _ (ms xs : List ℕ) (i : ℕ) where
 
   pub ended : length ms ≤ i → left i ms xs ≡ []
   unfolding of_sampled
-  ended h = ap (λ (l : List ℕ). of_sampled l (drop i xs)) (drop_end ms i h)
+  ended h = ap (λ (l : List ℕ). of_sampled l (drop i xs)) (drop_of_length-le ms h)
 
 -- a test of the sampled units' numbers, as one of marks and numbers in step
 abbrev pub sampled_other : ℕ → ℕ → ℕ → Bool

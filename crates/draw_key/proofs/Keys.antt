@@ -1,5 +1,6 @@
 -- The keys of units whose turnovers and random numbers are in range, by either method and under any start: each has a positive denominator, so that comparing keys, and
 -- of equal keys the unit numbers, orders the units strictly and totally. This is what the laws of selection ask for.
+use Rattle.std.proofs.lemmas.Bool.{true_from_ne_false}
 use Prim.Native.Nat.{ℕ, ◌-◌, ◌*◌, ◌≤◌, ◌<◌}
 use mathlib.Core.Bool.{Bool, true, false, not}
 use mathlib.Core.Path.{◌≡◌, sym, ap, ◌∙◌, subst}
@@ -13,7 +14,7 @@ use Rattle.rules.specs.Limits.{random_range}
 use Rattle.rules.specs.Selection.{firsts}
 use Rattle.rules.specs.TakeAll.{Frame, Group, turnover}
 use Rattle.rules.specs.Draw.{shifted, shifted_of, key_numerator, key_denominator, fraction_below, key_below, Method as RulesMethod}
-use Rattle.rules.proofs.Tests.{and_off, by_test, by_order, not_both, must_hold}
+use Rattle.rules.proofs.Tests.{and_off, by_test, by_order, not_both}
 use Rattle.selection.proofs.Orders.{Order, KeyOrder, key_order_lem, firsts_zero}
 use Rattle.draw_fraction.proofs.Order.{asymmetric, not_below_transitive, same_fractions}
 use Rattle.draw_fraction.specs.declared.Fraction.{Fraction}
@@ -63,7 +64,7 @@ fractions_compare :
     → KeyOrder among (λ i j. fraction_below (num i) (den i) (num j) (den j)) n
 fractions_compare among num den n positive = record {
   asym = λ i j li lj ai aj below. asymmetric _ _ _ _ below;
-  split = λ i j k li lj lk ai aj ak below not. must_hold (fraction_below (num j) (den j) (num k) (den k))
+  split = λ i j k li lj lk ai aj ak below not. true_from_ne_false (fraction_below (num j) (den j) (num k) (den k))
       (λ e. not_both (fraction_below (num i) (den i) (num k) (den k)) below
       (not_below_transitive _ _ _ _ _ _ (positive i li) (positive j lj) (positive k lk) not e));
 }

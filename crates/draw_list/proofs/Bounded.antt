@@ -1,4 +1,5 @@
 -- What is checked of the short list holds of the frame: exactly z units are within the bound, and each of them comes before all the others.
+use Rattle.std.proofs.lemmas.Bool.{true_from_ne_false}
 use Prim.Native.Nat.{ℕ, ◌*◌, ◌/◌, ◌≤◌, ◌<◌}
 use mathlib.Core.Bool.{Bool, true, false}
 use mathlib.Core.Logic.{◌⊎◌, inl, inr, ⊎_elim}
@@ -10,7 +11,7 @@ use lib.ListN.{length, get_or, take, length-take}
 use lib.Seq.{get_or-take}
 use lib.Dec.{ltb, leb, eqb}
 use borrow.Author.Tests.{lt-ltb, le-ltb, ltb-true, ltb-false, leb-true, leb-false, eq-eqb, eqb-true}
-use Rattle.rules.proofs.Tests.{and_left, and_right, and_on, or_off, or_false, by_test, by_order, must_hold}
+use Rattle.rules.proofs.Tests.{and_left, and_right, and_on, or_off, or_false, by_test, by_order}
 use Rattle.rules.specs.Tests.{◌and◌}
 use Rattle.rules.specs.Selection.{count}
 use Rattle.rules.specs.Draw.{fraction_below}
@@ -31,7 +32,7 @@ unfolding fraction_below
 part_less a b c d scale hb hd h =
     let whole = whole_less (a * scale) b (c * scale) d (λ z. omega (arith, z, hb)) (λ z. omega (arith, z, hd)) h in
     let more : a * scale * d < c * scale * b = ltb-true (a * scale * d) (c * scale * b) whole in
-    must_hold (ltb (a * d) (c * b)) (λ e. omega (arith, more, mul-le-mul_right scale (ltb-false (a * d) (c * b) e)))
+    true_from_ne_false (ltb (a * d) (c * b)) (λ e. omega (arith, more, mul-le-mul_right scale (ltb-false (a * d) (c * b) e)))
 
 -- a key of at most `reach` is below one that is not
 reach_less : (a b c d reach : ℕ) → 0 < b → 0 < d → a ≤ reach * b → reach * d < c → fraction_below a b c d ≡ true

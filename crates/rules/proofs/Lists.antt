@@ -21,16 +21,13 @@ use Rattle.rules.proofs.Tests.{and_left, and_right, and_true, or_on, or_off, or_
 pub drop_step : (l : List ℕ) (i : ℕ) → i < length l → drop i l ≡ get_or l i 0 ∷ drop (i + 1) l
 drop_step l i h = rw (add-one, drop-cons l i 0)
 
-pub drop_end : (l : List ℕ) (i : ℕ) → length l ≤ i → drop i l ≡ []
-drop_end l i h = drop_of_length-le l h
-
 pub sum_step : (l : List ℕ) (i : ℕ) → i < length l → sum (drop i l) ≡ get_or l i 0 + sum (drop (i + 1) l)
 unfolding sum
 sum_step l i h = ap sum (drop_step l i h)
 
 pub sum_end : (l : List ℕ) (i : ℕ) → length l ≤ i → sum (drop i l) ≡ 0
 unfolding sum
-sum_end l i h = ap sum (drop_end l i h)
+sum_end l i h = ap sum (drop_of_length-le l h)
 
 module _ (v p : List ℕ) (i : ℕ) where
   pub products_step : i < length v → i < length p → sum (products (drop i v) (drop i p)) ≡ get_or v i 0 * get_or p i 0 + sum (products (drop (i + 1) v) (drop (i + 1) p))
@@ -39,7 +36,7 @@ module _ (v p : List ℕ) (i : ℕ) where
 
   pub products_end : length v ≤ i → sum (products (drop i v) (drop i p)) ≡ 0
   unfolding sum products
-  products_end h = ap (λ (x : List ℕ). sum (products x (drop i p))) (drop_end v i h)
+  products_end h = ap (λ (x : List ℕ). sum (products x (drop i p))) (drop_of_length-le v h)
 
   any_pair_step : (test : ℕ → ℕ → Bool) → i < length v → i < length p → any_pair test (drop i v) (drop i p) ≡ (test (get_or v i 0) (get_or p i 0) or any_pair test (drop (i + 1) v) (drop (i + 1) p))
   unfolding any_pair
@@ -58,7 +55,7 @@ module _ (test : ℕ → ℕ → Bool) (v p : List ℕ) (i : ℕ) (all : Bool) (
   -- with nothing left it held for none
   pub pair_none : length v ≤ i → false ≡ all
   unfolding any_pair
-  pair_none h = sym (ap (λ (x : List ℕ). any_pair test x (drop i p)) (drop_end v i h)) ∙ left
+  pair_none h = sym (ap (λ (x : List ℕ). any_pair test x (drop i p)) (drop_of_length-le v h)) ∙ left
 
 -- The same of one list.
 module _ (test : ℕ → Bool) (l : List ℕ) (i : ℕ) (all : Bool) (left : any_of test (drop i l) ≡ all) where
@@ -74,7 +71,7 @@ module _ (test : ℕ → Bool) (l : List ℕ) (i : ℕ) (all : Bool) (left : any
 
   pub one_none : length l ≤ i → false ≡ all
   unfolding any_of
-  one_none h = sym (ap (any_of test) (drop_end l i h)) ∙ left
+  one_none h = sym (ap (any_of test) (drop_of_length-le l h)) ∙ left
 
 -- each product is within the sum of the products
 pub product_le : (v p : List ℕ) (i : ℕ) → get_or v i 0 * get_or p i 0 ≤ sum (products v p)
@@ -121,7 +118,7 @@ pub scaled_onto_all : (scale : ℕ) (v p out : List ℕ) → length out ≡ leng
 scaled_onto_all scale v p out m =
     let h : length p ≤ length p = omega arith in
     let o : length out ≤ length p = omega arith in
-    simp (take_all (length p) p h, drop_end out (length p) o, append-nil, scaled_take)
+    simp (take_all (length p) p h, drop_of_length-le out o, append-nil, scaled_take)
 
 pub length_scaled : (scale : ℕ) (v p : List ℕ) → length v ≡ length p → length (scaled scale v p) ≡ length v
 unfolding scaled
@@ -177,18 +174,6 @@ rising_below [] e i j h k = absurd (omega arith)
 rising_below (x ∷ xs) e i zero h k = absurd (omega arith)
 rising_below (x ∷ xs) e zero (suc j) h k = above_all x xs e j (omega arith)
 rising_below (x ∷ xs) e (suc i) (suc j) h k = rising_below xs (rises_rest x xs e) i j (omega arith) (omega arith)
-
--- the places beyond the first n of a list of one number
-pub drop_replicate : (n m x : ℕ) → drop n (replicate m x) ≡ replicate (m - n) x
-drop_replicate zero m x =
-    let e : m - 0 ≡ m = omega arith in
-    rw e
-drop_replicate (suc n) zero x =
-    let e : 0 - suc n ≡ 0 = omega arith in
-    rw e
-drop_replicate (suc n) (suc m) x =
-    let e : suc m - suc n ≡ m - n = omega arith in
-    rw e (drop_replicate n m x)
 
 -- ---- laying news over a buffer, a place a turn
 -- the buffer after i turns: the first i of the news, the other places as they were

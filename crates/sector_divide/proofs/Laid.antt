@@ -1,4 +1,5 @@
 -- A list of 64 places that is laid place by place: after i turns the first i values of f stand in it (`written_to` over 0 in every place).
+use Rattle.std.proofs.lemmas.List.{drop-replicate}
 use mathlib.Core.Path.{◌≡◌, sym, ap, ◌∙◌}
 use mathlib.Core.List.{List, ◌++◌}
 use Prim.Native.Nat.{ℕ, ◌+◌, ◌-◌, ◌≤◌, ◌<◌}
@@ -8,7 +9,7 @@ use lib.ListN.{length, get_or, drop, set, replicate, length-replicate}
 use Rattle.rules.specs.Limits.{most_sectors}
 use Rattle.rules.specs.Selection.{listed, every}
 use Rattle.rules.specs.Allocation.{no_places, in_places}
-use Rattle.rules.proofs.Lists.{written_to, written_to_next, written_to_all, drop_replicate}
+use Rattle.rules.proofs.Lists.{written_to, written_to_next, written_to_all}
 use Rattle.selection.proofs.Terms.{length_terms, term_at}
 
 pub record Laid (n : ℕ) (f : ℕ → ℕ) (i : ℕ) (l : List ℕ) : Type 0 where
@@ -31,5 +32,5 @@ module _ (n : ℕ) (f : ℕ → ℕ) where
     laid_all h k =
         let long = length_terms f n in
         let end : i ≡ length (listed every f n) = omega arith in
-        let rest : drop (length (listed every f n)) no_places ≡ replicate (most_sectors - n) 0 = ap (λ (m : ℕ). drop m no_places) long ∙ drop_replicate n most_sectors 0 in
+        let rest : drop (length (listed every f n)) no_places ≡ replicate (most_sectors - n) 0 = ap (λ (m : ℕ). drop m no_places) long ∙ drop-replicate n most_sectors 0 in
         w.is ∙ ap (λ (m : ℕ). written_to m (listed every f n) no_places) end ∙ written_to_all (listed every f n) no_places ∙ ap (λ (r : List ℕ). listed every f n ++ r) rest

@@ -1,5 +1,6 @@
 -- A strict total order of the marked units, their ranks in it, and the threshold. Everything here is for an arbitrary order:
 -- the largest turnovers and the smallest keys are two instances, and another key is one more.
+use Rattle.std.proofs.lemmas.Bool.{true_from_ne_false, false_from_ne_true}
 use mathlib.Core.Path.{◌≡◌, refl, sym, ap, ◌∙◌}
 use mathlib.Core.Logic.{⊎_elim, ◌⊎◌, inl, inr}
 use mathlib.Core.Bool.{Bool, true, false, not, cond}
@@ -10,7 +11,7 @@ use lib.Dec.{ltb}
 use borrow.Author.Tests.{lt-ltb, le-ltb, ltb-true, ltb-false, not-true}
 use Rattle.rules.specs.Tests.{◌and◌}
 use Rattle.rules.specs.Selection.{sum_of, count, rank, firsts, by_key, every}
-use Rattle.rules.proofs.Tests.{and_left, and_right, and_true, and_on, or_on, or_off, or_second, or_none, or_false, by_test, not_both, must_hold, cannot_hold}
+use Rattle.rules.proofs.Tests.{and_left, and_right, and_true, and_on, or_on, or_off, or_second, or_none, or_false, by_test, not_both}
 use Rattle.selection.proofs.Sums.{sum_le, sum_less, sum_same}
 
 -- A strict total order on the units below n that have the mark.
@@ -62,8 +63,8 @@ module _ {among : ℕ → Bool} {before : ℕ → ℕ → Bool} {n : ℕ} (o : O
     pub rank_one : rank among before n i ≡ rank among before n j → i ≡ j
     rank_one h =
         o.total i j li lj ai aj
-        (cannot_hold (before i j) (λ e. omega (arith, rank_less i j li lj ai aj e n (le_refl n) li)))
-        (cannot_hold (before j i) (λ e. omega (arith, rank_less j i lj li aj ai e n (le_refl n) lj)))
+        (false_from_ne_true (before i j) (λ e. omega (arith, rank_less i j li lj ai aj e n (le_refl n) li)))
+        (false_from_ne_true (before j i) (λ e. omega (arith, rank_less j i lj li aj ai e n (le_refl n) lj)))
 
   -- THE THRESHOLD: where w is the last of the first k + 1, those are the marked units that w does not come before
   pub threshold :
@@ -91,7 +92,7 @@ module _ (among : ℕ → Bool) (before : ℕ → ℕ → Bool) where
   pub firsts_zero : (n i : ℕ) → firsts among before n 0 i ≡ false
   unfolding firsts
   firsts_zero n i =
-      cannot_hold (among i and ltb (rank among before n i) 0)
+      false_from_ne_true (among i and ltb (rank among before n i) 0)
       (λ e. omega (arith, ltb-true (rank among before n i) 0 (and_right (among i) (ltb (rank among before n i) 0) e)))
 
 -- the same units in the same order
@@ -150,20 +151,20 @@ module _ (below : ℕ → ℕ → Bool) (j i : ℕ) where
   unfolding by_key
   by_higher l =
       or_none (below j i) (not (below i j) and ltb j i)
-      (cannot_hold (not (below i j) and ltb j i) (λ e. not_both (ltb j i) (and_right (not (below i j)) (ltb j i) e) (le-ltb j i l)))
+      (false_from_ne_true (not (below i j) and ltb j i) (λ e. not_both (ltb j i) (and_right (not (below i j)) (ltb j i) e) (le-ltb j i l)))
 
 -- an order by a key is a strict total order
 module _ {among : ℕ → Bool} {below : ℕ → ℕ → Bool} {n : ℕ} (o : KeyOrder among below n) where
   key_irr : (i : ℕ) → i < n → among i ≡ true → below i i ≡ false
-  key_irr i l a = cannot_hold (below i i) (λ e. not_both (below i i) e (o.asym i i l l a a e))
+  key_irr i l a = false_from_ne_true (below i i) (λ e. not_both (below i i) e (o.asym i i l l a a e))
 
   module _ (i j k : ℕ) (li : i < n) (lj : j < n) (lk : k < n) (ai : among i ≡ true) (aj : among j ≡ true) (ak : among k ≡ true) where
     -- below one that is not above a third: below the third
     first : below i j ≡ true → below k j ≡ false → below i k ≡ true
-    first x y = must_hold (below i k) (λ e. not_both (below k j) (o.split i k j li lk lj ai ak aj x e) y)
+    first x y = true_from_ne_false (below i k) (λ e. not_both (below k j) (o.split i k j li lk lj ai ak aj x e) y)
 
     second : below j i ≡ false → below k j ≡ false → below k i ≡ false
-    second x y = cannot_hold (below k i) (λ e. not_both (below j i) (o.split k j i lk lj li ak aj ai e y) x)
+    second x y = false_from_ne_true (below k i) (λ e. not_both (below j i) (o.split k j i lk lj li ak aj ai e y) x)
 
     key_trans : by_key below i j ≡ true → by_key below j k ≡ true → by_key below i k ≡ true
     key_trans h g =
@@ -177,7 +178,7 @@ module _ {among : ℕ → Bool} {below : ℕ → ℕ → Bool} {n : ℕ} (o : Ke
 
   pub key_order_lem : Order among (by_key below) n
   key_order_lem = record {
-    irr = λ i l a. cannot_hold (by_key below i i)
+    irr = λ i l a. false_from_ne_true (by_key below i i)
         (λ e. ⊎_elim (λ x. not_both (below i i) x (key_irr i l a)) (λ x. omega arith) (by_cases below i i e));
     trans = key_trans;
     total = λ i j li lj ai aj h g.

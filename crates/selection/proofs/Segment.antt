@@ -1,11 +1,12 @@
 -- A set of marked units such that each of them comes before each marked unit outside it: where it has k units, it is the k first.
+use Rattle.std.proofs.lemmas.Bool.{true_from_ne_false}
 use mathlib.Core.Path.{◌≡◌, sym, ◌∙◌}
 use mathlib.Core.Bool.{Bool, true, false}
 use Prim.Native.Nat.{ℕ, ◌≤◌, ◌<◌}
 use native.Mathlib.Omega.{arith}
 use lib.Dec.{ltb}
 use borrow.Author.Tests.{lt-ltb, le-ltb}
-use Rattle.rules.proofs.Tests.{and_left, and_right, and_true, and_on, and_off, by_test, not_both, must_hold}
+use Rattle.rules.proofs.Tests.{and_left, and_right, and_true, and_on, and_off, by_test, not_both}
 use Rattle.rules.specs.Tests.{◌and◌}
 use Rattle.rules.specs.Selection.{count, rank, firsts}
 use Rattle.selection.proofs.Sums.{sum_le, sum_less}
@@ -19,7 +20,7 @@ module _ {among : ℕ → Bool} {before : ℕ → ℕ → Bool} {n : ℕ} {chose
   -- whoever comes before a chosen unit is chosen
   closed : (i j : ℕ) → i < n → j < n → chosen i ≡ true → among j ≡ true → before j i ≡ true → chosen j ≡ true
   closed i j li lj ci aj h =
-      must_hold (chosen j)
+      true_from_ne_false (chosen j)
       (λ e. not_both (before j j) (o.trans j i j lj li lj aj (s.marked i li ci) aj h (s.ahead i j li lj ci aj e)) (o.irr j lj aj))
 
   chosen_rank : (i : ℕ) → i < n → chosen i ≡ true → rank among before n i < count chosen n

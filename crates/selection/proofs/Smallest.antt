@@ -1,4 +1,5 @@
 -- The k first by a key, ties by number, are the k smallest: for an arbitrary key. The Pareto key and the sequential Poisson key are two instances.
+use Rattle.std.proofs.lemmas.Bool.{false_from_ne_true}
 use mathlib.Core.Path.{◌≡◌, sym, ap, ◌∙◌}
 use mathlib.Core.Bool.{Bool, true, false}
 use Prim.Native.Nat.{ℕ, ◌≤◌, ◌<◌}
@@ -7,7 +8,7 @@ use native.Mathlib.Omega.{arith}
 use lib.Dec.{ltb}
 use borrow.Author.Tests.{ltb-true, ltb-false}
 use Rattle.rules.specs.Selection.{count, rank, firsts, by_key}
-use Rattle.rules.proofs.Tests.{and_left, and_right, and_on, not_both, cannot_hold}
+use Rattle.rules.proofs.Tests.{and_left, and_right, and_on, not_both}
 use Rattle.selection.specs.Smallest.{Smallest}
 use Rattle.selection.proofs.Orders.{Order, KeyOrder, key_order_lem, rank_less, by_not}
 use Rattle.selection.proofs.Places.{count_firsts}
@@ -32,7 +33,7 @@ module _ {among : ℕ → Bool} {below : ℕ → ℕ → Bool} {n : ℕ} (o : Ke
   behind i j li lj ti aj tj =
       let low : rank among before n i < k = ltb-true _ _ (and_right (among i) (ltb (rank among before n i) k) ti) in
       let high : k ≤ rank among before n j = ltb-false _ _ (sym (and_on (among j) (ltb (rank among before n j) k) aj) ∙ tj) in
-      cannot_hold (before j i) (λ e. omega (arith, rank_less order j i lj li aj (part i ti) e n (le_refl n) lj))
+      false_from_ne_true (before j i) (λ e. omega (arith, rank_less order j i lj li aj (part i ti) e n (le_refl n) lj))
 
   -- THE k SMALLEST
   pub smallest : k ≤ count among n → Smallest among below n k taken

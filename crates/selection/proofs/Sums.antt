@@ -1,4 +1,5 @@
 -- Sums and counts over marked units, and the list of them.
+use Rattle.std.proofs.lemmas.Bool.{false_from_ne_true}
 use mathlib.Core.Path.{◌≡◌, refl, sym, ap, ◌∙◌, subst}
 use mathlib.Core.Logic.{⊎_elim}
 use mathlib.Core.Bool.{Bool, true, false, not, cond, true≢false}
@@ -13,7 +14,7 @@ use Rattle.rules.specs.Tests.{◌or◌, ◌and◌}
 use Rattle.rules.specs.Refusals.{written}
 use Rattle.rules.specs.Lists.{sum}
 use Rattle.rules.specs.Selection.{sum_of, count, listed, every}
-use Rattle.rules.proofs.Tests.{by_test, cannot_hold}
+use Rattle.rules.proofs.Tests.{by_test}
 
 module _ (p q : ℕ → Bool) (f : ℕ → ℕ) where
   -- more marks, a larger sum
@@ -135,7 +136,7 @@ module _ (p : ℕ → Bool) where
 
   -- where no more are counted, none is marked
   pub count_rest : (i n : ℕ) → count p i ≡ count p n → (k : ℕ) → i ≤ k → k < n → p k ≡ false
-  count_rest i n e k l h = cannot_hold (p k) (λ q. omega (arith, has_room n k h q, count_grows i k l))
+  count_rest i n e k l h = false_from_ne_true (p k) (λ q. omega (arith, has_room n k h q, count_grows i k l))
 
   -- the marked and the unmarked are all
   pub count_both : (n : ℕ) → count p n + count (λ i. not (p i)) n ≡ n

@@ -1,5 +1,6 @@
 -- Document 01, "Frame and weights": the take-all group. The largest unit outside the q largest decides whether q fits, so one
 -- scan of the largest units finds q. From that: exactly q units reach X, and outside the group n × turnover stays below X.
+use Rattle.std.proofs.lemmas.Bool.{false_from_ne_true}
 use mathlib.Core.Path.{◌≡◌, refl, sym, ap, ◌∙◌}
 use mathlib.Core.Bool.{true, false}
 use mathlib.Core.List.{List}
@@ -13,7 +14,7 @@ use borrow.Author.Tests.{lt-ltb, le-ltb, ltb-true, ltb-false, leb-true, le-leb, 
 use Rattle.rules.specs.Lists.{sum}
 use Rattle.rules.specs.Selection.{sum_of, count, rank, firsts, least_from, every}
 use Rattle.rules.specs.TakeAll.{turnover, more_turnover, larger, largest, rest_without, reaches_rest, fits, take_all_size, rest_turnover}
-use Rattle.rules.proofs.Tests.{and_on, by_test, by_order, cannot_hold}
+use Rattle.rules.proofs.Tests.{and_on, by_test, by_order}
 use Rattle.selection.specs.Ranked.{Ranked}
 use Rattle.selection.proofs.Sums.{sum_le, sum_both, sum_list, sum_none, count_every}
 use Rattle.selection.proofs.Orders.{Order, KeyOrder, key_order_lem, by_not, rank_less, firsts_zero}
@@ -85,14 +86,14 @@ module _ (ts : List ℕ) {top : List ℕ} {z : ℕ} (r : Ranked every (larger ts
   others_le : (q i : ℕ) → q < z → i < length ts → q ≤ size_rank ts i → turnover ts i ≤ turnover ts (get_or top q 0)
   others_le q i l li h =
       first_more ts (get_or top q 0) i
-      (cannot_hold (larger ts i (get_or top q 0))
+      (false_from_ne_true (larger ts i (get_or top q 0))
       (λ g. omega (arith, rank_less o i (get_or top q 0) li (r.low q l) refl refl g (length ts) (le_refl _) li, r.at q l)))
 
   -- a unit among the q + 1 largest has no less
   largest_ge : (q i : ℕ) → q < z → i < length ts → size_rank ts i ≤ q → turnover ts (get_or top q 0) ≤ turnover ts i
   largest_ge q i l li h =
       first_more ts i (get_or top q 0)
-      (cannot_hold (larger ts (get_or top q 0) i)
+      (false_from_ne_true (larger ts (get_or top q 0) i)
       (λ g. omega (arith, rank_less o (get_or top q 0) i (r.low q l) li refl refl g (length ts) (le_refl _) (r.low q l), r.at q l)))
 
   -- where the largest of the others fails the test, only the q largest can pass it

@@ -3,7 +3,7 @@ use Prim.Native.Nat.{ℕ, zero, suc, ◌+◌, ◌≤◌, ◌<◌}
 use mathlib.Core.Path.{◌≡◌, refl, sym, ap, ap₂, ◌∙◌}
 use mathlib.Core.Bool.{Bool, true, false, not, cond}
 use mathlib.Core.List.{List, [], ◌∷◌, ◌++◌, map, append_assoc, append-nil}
-use lib.ListN.{length, get_or, take, drop, length-append, length-map, take-append-drop}
+use lib.ListN.{length, get_or, take, drop, length-append, length-map, take-append-drop, drop_of_length-le}
 use lib.Seq.{take-suc, take_all, get_or-drop}
 use lib.Dec.{eqb}
 use native.Mathlib.Omega.{arith}
@@ -15,7 +15,7 @@ use Rattle.rules.specs.Lists.{sum, any_of}
 use Rattle.rules.specs.Stream.{Column, bytes_in, bytes_of, operands_of, width_of}
 use Rattle.rules.specs.Writing.{Row, Lists, row, value_in, bytes_with, operand_bytes, command_bytes, stream_of, rows_of, rows_in, stream_in, differ, write_refusal}
 use Rattle.rules.proofs.Tests.{or_false}
-use Rattle.rules.proofs.Lists.{drop_step, drop_end}
+use Rattle.rules.proofs.Lists.{drop_step}
 use Rattle.rules.proofs.Refusals.{then_none, refuse_none}
 use Rattle.text_decimal.specs.declared.Writer.{Writer}
 use Rattle.text_decimal.specs.Wrote.{Wrote}
@@ -156,7 +156,7 @@ width_step ks i h = ap (λ (l : List ℕ). sum (map width_of l)) (drop_step ks i
 
 pub width_end : (ks : List ℕ) (i : ℕ) → length ks ≤ i → sum (map width_of (drop i ks)) ≡ 0
 unfolding sum
-width_end ks i h = ap (λ (l : List ℕ). sum (map width_of l)) (drop_end ks i h)
+width_end ks i h = ap (λ (l : List ℕ). sum (map width_of l)) (drop_of_length-le ks h)
 
 -- ---- lists that are accepted
 pub record Accepted (l : Lists) (out : List ℕ) : Type 0 where

@@ -5,7 +5,7 @@ use mathlib.Core.List.{List, [], ◌∷◌}
 use Prim.Native.Nat.{ℕ, suc, ◌+◌, ◌*◌, ◌-◌, ◌<◌, ◌≤◌}
 use native.Mathlib.Nat.{le_refl}
 use native.Mathlib.Omega.{arith}
-use lib.ListN.{length, get_or, drop}
+use lib.ListN.{length, get_or, drop, drop_of_length-le}
 use lib.Dec.{leb, ltb}
 use borrow.Author.Tests.{leb-true, lt-ltb, le-ltb}
 use Rattle.std.proofs.Common.{rules}
@@ -13,7 +13,7 @@ use Rattle.std.specs.Char.{is_ascii_digit}
 use Rattle.rules.specs.Tests.{◌and◌}
 use Rattle.rules.specs.Register.{Part, is_digit, digits_in, spelled, sized, field_at}
 use Rattle.rules.proofs.Tests.{and_left, and_right, by_test}
-use Rattle.rules.proofs.Lists.{drop_step, drop_end}
+use Rattle.rules.proofs.Lists.{drop_step}
 
 -- ---- bytes
 pub digit_is : (c : ℕ) → is_digit c ≡ true → (48 ≤ c) × (c ≤ 57)
@@ -40,11 +40,11 @@ module _ (t : List ℕ) (i : ℕ) (inside : i < length t) where
 
 digits_end : (t : List ℕ) (i : ℕ) → length t ≤ i → digits_in (drop i t) ≡ 0
 unfolding digits_in
-digits_end t i h = ap digits_in (drop_end t i h)
+digits_end t i h = ap digits_in (drop_of_length-le t h)
 
 spelled_end : (t : List ℕ) (i v : ℕ) → length t ≤ i → spelled v (drop i t) ≡ v
 unfolding spelled
-spelled_end t i v h = ap (spelled v) (drop_end t i h)
+spelled_end t i v h = ap (spelled v) (drop_of_length-le t h)
 
 -- more digits spell no less
 spelled_le : (v : ℕ) (s : List ℕ) → v ≤ spelled v s

@@ -1,4 +1,5 @@
 -- `open_from`: 21 or 22 is the opening's refusal; with neither the units' places hold the opening weights, and the others 0.
+use Rattle.std.proofs.lemmas.List.{drop-replicate}
 use mathlib.Core.Path.{refl, sym, ap, ap₂, ◌∙◌}
 use mathlib.Core.List.{List, ◌++◌}
 use Prim.Native.Nat.{ℕ}
@@ -8,7 +9,6 @@ use Rattle.refusals.proofs.Answers.{refused_by}
 use Rattle.rules.specs.Limits.{most_panel}
 use Rattle.rules.specs.Refusals.{Judged}
 use Rattle.rules.proofs.Refusals.{judged_given}
-use Rattle.rules.proofs.Lists.{drop_replicate}
 use Rattle.chain_record.specs.Record.{record_with}
 use Rattle.chain_record.proofs.Records.{opened_is}
 use Rattle.chain_open.proofs.Fitting.{front}
@@ -26,6 +26,6 @@ returns-in_err-weigh c = let p = err_from_is_err_and c.from_residual.result c.fr
 
 pub returns : goal.returns
 returns c = let n = length c.args.u.now in
-    let places = ap₂ (λ (x y : List ℕ). x ++ y) (c.in_ok-weigh.ensures.v_after refl) (drop_replicate n most_panel 0) in
+    let places = ap₂ (λ (x y : List ℕ). x ++ y) (c.in_ok-weigh.ensures.v_after refl) (drop-replicate n most_panel 0) in
     let made = ap (record_with _) c.opened.ensures ∙ opened_is c.args.u.now c.args.a.now _ c.args.start places in
     ap Judged.given made ∙ sym (judged_given _ _ (sym c.in_ok-weigh.ensures.result_value))

@@ -3,10 +3,10 @@ use native.Mathlib.Omega.{arith}
 use mathlib.Core.Path.{◌≡◌, sym, ◌∙◌}
 use mathlib.Core.List.{List, append-nil}
 use Prim.Native.Nat.{ℕ, ◌≤◌}
-use lib.ListN.{length}
+use lib.ListN.{length, drop_of_length-le}
 use Rattle.rules.specs.Refusals.{written}
 use Rattle.rules.specs.Panel.{shared_unit}
-use Rattle.rules.proofs.Lists.{drop_end, laid_next, laid_end}
+use Rattle.rules.proofs.Lists.{laid_next, laid_end}
 use Rattle.rules.proofs.Panels.{length_each, each_at}
 use Rattle.chain_share.specs.Outsideable.{Layable}
 use Rattle.chain_share.proofs.lay.Invariants.{news}
@@ -23,7 +23,7 @@ module _ (inner t : ℕ) (ms ws gs us : List ℕ) (l : Layable inner t ms ws gs 
   whole : written 0 (news inner t ms ws gs) us ≡ news inner t ms ws gs
   whole =
       let none : length us ≤ length (news inner t ms ws gs) = omega (arith, long, l.marked.marks, l.room) in
-      simp (drop_end us (length (news inner t ms ws gs)) none, append-nil)
+      simp (drop_of_length-le us none, append-nil)
 
 pub loop-i-preserved : goal.loop-i-preserved
 loop-i-preserved c = let p = c.requires in
