@@ -3,9 +3,8 @@
 // A program has no exit status: a read or a write that fails is told on standard error, with the system's reason, and ends the run.
 #![tactic(auto)]
 
-ghost use Rattle.std.specs.Prelude.{◌≡◌, suc, ◌*◌, ◌≤◌, length, IfOk};
-ghost use Rattle.rules.specs.Limits.{most_stream, most_panel};
-ghost use Rattle.text_lines.specs.Laid.{line_room};
+ghost use Rattle.std.specs.Prelude.{◌≡◌, suc, ◌≤◌, length, IfOk};
+ghost use Rattle.rules.specs.Limits.{most_stream};
 
 use job_text::TEXT_ROOM;
 use std::env::{Env, FillError};
@@ -19,12 +18,6 @@ fn stream_room() -> [u8; STREAM_ROOM]
     ensures { suc most_stream ≡ length result }
 {
     [0; STREAM_ROOM]
-}
-
-fn text_room() -> [u8; TEXT_ROOM]
-    ensures { line_room * most_panel ≡ length result }
-{
-    [0; TEXT_ROOM]
 }
 
 // Reads until the buffer is full, the input ends or a read fails: how many bytes it put at the start of the buffer.
@@ -44,10 +37,8 @@ fn read_stream<R: Read>(input: &mut R, bytes: &mut [u8]) -> io::Result<usize>
 
 // The system's reason, without the number that std puts behind it.
 fn reason_of(said: &str) -> &str {
-    match said.split_once(" (os error ") {
-        Some((reason, _)) => reason,
-        None => said,
-    }
+    said.split_once(" (os error ")
+        .map_or(said, |(reason, _)| reason)
 }
 
 // Tells a failure on standard error. Where nobody can be told, nothing is.
@@ -68,7 +59,7 @@ fn has_arguments(rt: &HostRuntime) -> bool {
 
 // Does the commands of a stream in turn, one write for the text of each.
 fn run_stream(rt: &HostRuntime, stream: &[u8]) -> io::Result<()> {
-    let mut text = text_room();
+    let mut text = [0; TEXT_ROOM];
     let mut unread = stream;
     let mut held = job_state::empty();
     loop {

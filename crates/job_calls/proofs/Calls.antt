@@ -39,12 +39,11 @@ use Rattle.job_calls.specs.Commands.{command_by}
 -- ---- quarter and close: what each is, after which one argument serves both
 module _ (j : Job) where
   by_kind : (kind : Kind) → step (job_of j) (command_by kind) ≡ on_call (job_of j) (job_of j).chain (call_by kind (job_of j).pending)
-  unfolding step command_by
+  unfolding step
   by_kind Kind.Quarter = refl
   by_kind Kind.Close = refl
 
   next_kind : (kind : Kind) → job_next j (command_by kind) ≡ chain_called j j.chain (call_by kind (job_of j).pending)
-  unfolding command_by
   next_kind Kind.Quarter = refl
   next_kind Kind.Close = refl
 

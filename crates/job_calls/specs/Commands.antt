@@ -4,6 +4,6 @@ use Rattle.chain.specs.declared.Kind.{Kind}
 use Rattle.chain.specs.declared.Kind.TheVariants.{Quarter, Close}
 
 -- "6 quarter. 7 close."
-unfoldable pub command_by : Kind → Command
+abbrev pub command_by : Kind → Command
 command_by Quarter = Command.quarter
 command_by Close = Command.close

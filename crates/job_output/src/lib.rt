@@ -10,12 +10,6 @@ ghost use Rattle.job_output.specs.Printed.{print_answer, printed_on, answer_from
 use job_text::TEXT_ROOM;
 use refusals::Refusal;
 
-fn text_room() -> [u8; TEXT_ROOM]
-    ensures { panel_room ≡ length result }
-{
-    [0; TEXT_ROOM]
-}
-
 // Lays the first count bytes of a turn's text from the place at on, if they have room.
 // No writer: what has no room is counted all the same, so that the place may lie beyond the buffer.
 fn lay(text: &[u8; TEXT_ROOM], count: usize, out: &mut [u8], at: usize)
@@ -35,7 +29,7 @@ fn lay(text: &[u8; TEXT_ROOM], count: usize, out: &mut [u8], at: usize)
 fn pass(stream: &[u8], out: &mut [u8]) -> usize
     ensures { Passed stream.now out.old out.new result }
 {
-    let mut text = text_room();
+    let mut text = [0; TEXT_ROOM];
     let mut unread = stream;
     let mut held = job_state::empty();
     let mut at: usize = 0;

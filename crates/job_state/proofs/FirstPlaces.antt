@@ -4,23 +4,12 @@ use native.Mathlib.Nat.{zero-min, min-zero, suc-min-suc}
 use mathlib.Core.Path.{◌≡◌, refl, sym, ap, ◌∙◌}
 use mathlib.Core.List.{List, [], ◌∷◌}
 use lib.ListN.{length, take, replicate, length-take}
-use Rattle.rules.specs.Limits.{most_held, most_panel}
-use Rattle.job_state.specs.declared.Job.{Job}
 
 take_min : (l : List ℕ) (count : ℕ) → take (min count (length l)) l ≡ take count l
 take_min [] zero = refl
 take_min [] (suc count) = rw min-zero
 take_min (x ∷ l) zero = rw zero-min
 take_min (x ∷ l) (suc count) = rw suc-min-suc (ap (λ (m : List ℕ). x ∷ m) (take_min l count))
-
--- each array of a job has a place for each unit that it is to hold
-pub record Sized (j : Job) : Type 0 where
-  pub numbers : length j.frame.numbers ≡ most_held
-  pub turnovers : length j.frame.turnovers ≡ most_held
-  pub randoms : length j.frame.randoms ≡ most_held
-  pub weights : length j.panel.weights ≡ most_panel
-  pub shares : length j.panel.shares ≡ most_panel
-  pub pending : length j.panel.pending ≡ most_panel
 
 -- how many places a count names
 pub named : (l : List ℕ) (count places : ℕ) → length l ≡ places → length (take count l) ≡ min count places

@@ -15,7 +15,7 @@ use frame::Frame;
 use limits::{MOST_HELD, MOST_PANEL, SHARE_SCALE};
 use refusals::Refusal;
 
-// The frame so far. Its units are the first places of the arrays: there is no heap for lists that grow.
+// The frame so far, in the first places of three arrays: a draw is lent three lists, and there is no heap for lists that grow.
 #[derive(Clone, Copy)]
 pub struct HeldFrame {
     pub numbers: [u32; MOST_HELD],
@@ -38,7 +38,7 @@ impl HeldFrame {
     }
 }
 
-// The W of the drawn panel with its shares and pending relatives, in the first places of the arrays as those of a frame.
+// The W of the drawn panel with its shares and pending relatives, held as a frame is: an opening is lent three lists.
 #[derive(Clone, Copy)]
 pub struct HeldPanel {
     pub weights: [u64; MOST_PANEL],
@@ -76,7 +76,7 @@ pub struct Job {
     pub chain: Option<Chain>,
 }
 
-// What a command that is accepted says. The panel's unit numbers and W stand beside it, since an enum holds no array.
+// What a command that is accepted says. A panel's W are in the job, and its unit numbers beside it: `Steps` gives each place of them whatever is said.
 #[derive(Clone, Copy)]
 pub enum Saying {
     Nothing,

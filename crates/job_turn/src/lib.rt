@@ -2,7 +2,6 @@
 // lent buffer. A program loops over turns (specs/Run.antt); what all turns print is proofs/Whole.antt.
 #![tactic(auto)]
 
-ghost use Rattle.std.specs.Prelude.{◌≡◌, ◌-◌};
 ghost use Rattle.job_turn.specs.Turn.{Renders};
 
 use job_state::Job;
@@ -17,26 +16,19 @@ pub struct Turned {
     pub more: bool,
 }
 
-// The offset of the unread part.
-fn offset(total: usize, unread: usize) -> usize
-    ensures { result ≡ total - unread }
-{
-    total.saturating_sub(unread)
-}
-
 // One turn at the unread part s of a stream of total bytes.
 pub fn turn(total: usize, s: &[u8], job: Job, text: &mut [u8; TEXT_ROOM]) -> Turned
     ensures { Renders total s.now job result text.old text.new }
 {
-    let at = offset(total, s.len());
+    let at = total.saturating_sub(s.len());
     match stream_front::reading_at(s) {
         Err(why) => Turned {
-            job: job,
+            job,
             count: text_lines::refusal_line(text, why.number(), at),
             more: false,
         },
         Ok(None) => Turned {
-            job: job,
+            job,
             count: 0,
             more: false,
         },
