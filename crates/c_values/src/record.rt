@@ -20,11 +20,10 @@ pub fn load(lent: &[u64]) -> Chain
     requires { record_places ≤ length lent.now }
     ensures { record_of result ≡ record_in lent.now }
 {
-    let mut v = [0u64; MOST_PANEL];
-    let places: &mut [u64] = &mut v;
-    places.copy_from_slice(&lent[BEFORE..RECORD]);
+    let mut weights = [0u64; MOST_PANEL];
+    weights.copy_from_slice(&lent[BEFORE..RECORD]);
     Chain {
-        weights: v,
+        weights,
         numbers: Numbers {
             units: lent[0] as usize,
             index: lent[1],
@@ -44,9 +43,7 @@ fn store(chain: Chain, lent: &mut [u64])
     lent[1] = numbers.index;
     lent[2] = numbers.closes;
     lent[3] = numbers.links;
-    let v = chain.weights;
-    let places = &mut lent[BEFORE..RECORD];
-    places.copy_from_slice(&v);
+    lent[BEFORE..RECORD].copy_from_slice(&chain.weights);
 }
 
 // What a close or a year leaves in a lent list: its record, or after a refusal the list as it was.

@@ -110,7 +110,7 @@ impl Chain {
         }
     }
 
-    // The one or the other.
+    // The one or the other, by a plain match: the two are methods that document 01 names, and no closure over them is plainer.
     pub fn call(self, kind: Kind, p: &[u32]) -> Answered
         ensures answer_value { answer_from result.answer ≡ call_answer (record_of self) (call_by kind p.now) }
         ensures chain_value { record_of result.chain ≡ after (record_of self) (call_by kind p.now) }
