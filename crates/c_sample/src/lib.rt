@@ -8,6 +8,7 @@ ghost use Rattle.c_sample.specs.Sample.{sample_from};
 use limits::MOST_SECTORS;
 use sector_judge::Sharing;
 
+// The refusal, and the three lists themselves, since C has no struct of ours: `Quotas` with one field more.
 #[repr(C)]
 #[derive(Drop)]
 pub struct Sample {

@@ -70,6 +70,7 @@ pub fn judge(t: &[u8], places: usize) -> Result<usize, ImportError>
 {
     let mut at: usize = 0;
     let mut lines: usize = 0;
+    // The offset is no count: each line says where the next one begins.
     while at < t.len() {
         let Some(row) = read_line(t, at) else {
             return Err(ImportError::BadLine(at));
@@ -107,6 +108,7 @@ pub fn import_units(text: &[u8], list: &mut [Unit]) -> Result<usize, ImportError
 }
 
 // Lays the first `count` lines into the three lists.
+// No struct of the three: the definitions take them one by one, so each clause would only name them one field deeper.
 fn fill(text: &[u8], count: usize, numbers: &mut [u32], turnovers: &mut [u64], randoms: &mut [u32])
     requires { (count ≤ length numbers.old) × (count ≤ length turnovers.old) × (count ≤ length randoms.old) }
     ensures numbers_after { numbers.new ≡ written 0 (column_of (λ (row : RulesRow). row.number) count text.now 0) numbers.old }

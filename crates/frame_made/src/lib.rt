@@ -30,6 +30,7 @@ fn bad_load(start: u64, count: usize, numbers: usize, turnovers: usize, randoms:
 }
 
 // Lays the units 1 to count: number, turnover and random number of each, two steps a unit.
+// No struct of the three lists: the definitions take them one by one, so each clause would only name them one field deeper.
 fn fill(start: u64, count: usize, numbers: &mut [u32], turnovers: &mut [u64], randoms: &mut [u32])
     requires { (start < state_range) × (count ≤ most_frame) × (count ≤ length numbers.old) × (count ≤ length turnovers.old) × (count ≤ length randoms.old) }
     ensures numbers_after { numbers.new ≡ written 0 (made_numbers count 1) numbers.old }

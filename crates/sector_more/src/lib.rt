@@ -42,6 +42,7 @@ fn rank_still(
 }
 
 // One more for each of the `more` sectors with the largest remainders, of those that are still there.
+// The lists have their fixed 64 places, so how many sectors there are stands beside them.
 pub fn give(remainders: &[u64], gone: &[bool], sectors: usize, more: usize, counts: &mut [u64])
     requires { Givable remainders.now gone.now sectors more counts.old }
     ensures { Given (still_in gone.now) (larger remainders.now) sectors more counts.old counts.new }

@@ -86,6 +86,7 @@ impl Kind {
 }
 
 // The bytes of the command with the command byte k; a byte that asks for none stands alone.
+// Over any byte and not a kind: the lists that C lends hold any byte.
 pub fn width(k: u8) -> usize
     ensures { result ≡ width_of k }
 {

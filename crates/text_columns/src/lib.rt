@@ -4,7 +4,7 @@
 ghost use Rattle.std.specs.Prelude.{◌≡◌, ◌+◌, ◌/◌, ◌^◌, ◌≤◌, ◌<◌, length, replicate};
 ghost use Rattle.rules.specs.Limits.{name_columns, number_columns, figure_decimals};
 ghost use Rattle.rules.specs.Sheet.{last_digits, with_decimals, left_in, right_in};
-ghost use Rattle.text_decimal.specs.Put.{digits_of};
+ghost use Rattle.text_decimal.specs.Put.{digits_of, Put};
 ghost use Rattle.text_decimal.specs.Wrote.{Room, Wrote};
 ghost use Rattle.text_columns.specs.Signed.{sign_of, signed_text};
 
@@ -35,16 +35,18 @@ fn put_spaces(w: &mut Writer, count: usize)
     w.bytes(&spaces[..count]);
 }
 
-// Lays the last k digits of n, zeros among them.
-fn put_last_digits(w: &mut Writer, n: u64, k: usize)
-    requires { Room w.old k }
-    ensures { Wrote w.old (last_digits k n) w.new }
+// Lays the last k digits of n from the place at on, zeros among them, and answers the place after them.
+// By a place and not a writer, as in `text_decimal`: where the place stands in memory each digit waits for the one before.
+fn put_last_digits(out: &mut [u8], at: usize, n: u64, k: usize) -> usize
+    requires { at + k ≤ length out.old }
+    ensures { Put at (last_digits k n) out.old out.new result }
 {
     if k == 0 {
-        return;
+        return at;
     }
-    put_last_digits(w, n / 10, k - 1);
-    w.byte(48 + (n % 10) as u8);
+    let last = put_last_digits(out, at, n / 10, k - 1);
+    out[last] = 48 + (n % 10) as u8;
+    last + 1
 }
 
 // Lays n, which counts the last of k decimals; a whole is so many units.
@@ -54,7 +56,7 @@ fn put_with_decimals(w: &mut Writer, n: u64, unit: u64, k: usize)
 {
     w.decimal(n / unit);
     w.byte(b'.');
-    put_last_digits(w, n, k);
+    w.at = put_last_digits(w.out, w.at, n, k);
 }
 
 // Lays a minus sign where one is asked for.

@@ -1,6 +1,6 @@
 -- Texts laid one after the other are one text laid, so a line is laid piece by piece.
 use Prim.Native.Nat.{ℕ, ◌+◌, ◌≤◌, ◌<◌}
-use mathlib.Core.Path.{◌≡◌, sym, ap, subst, ◌∙◌}
+use mathlib.Core.Path.{◌≡◌, refl, sym, ap, subst, ◌∙◌}
 use mathlib.Core.List.{List, [], ◌∷◌, ◌++◌, append_assoc}
 use lib.ListN.{length, take, drop, set, length-append, length-drop, take-append-drop}
 use lib.Seq.{set_split, take_at, drop-append-add, drop-drop, length-take-le}
@@ -10,11 +10,14 @@ use native.Mathlib.Numerals.{add-one}
 use Rattle.text_decimal.specs.Put.{laid_at, Put}
 
 -- one byte stored
-pub byte : (buffer : List ℕ) (at b : ℕ) → at + 1 ≤ length buffer → set buffer at b ≡ laid_at at (b ∷ []) buffer
+byte : (buffer : List ℕ) (at b : ℕ) → at + 1 ≤ length buffer → set buffer at b ≡ laid_at at (b ∷ []) buffer
 unfolding laid_at
 byte buffer at b room =
     let h : at < length buffer = omega arith in
     set_split buffer at b h ∙ ap (λ (n : ℕ). take at buffer ++ (b ∷ drop n buffer)) (sym (add-one at))
+
+pub stored : (buffer : List ℕ) (at b : ℕ) → at + 1 ≤ length buffer → Put at (b ∷ []) buffer (set buffer at b) (at + 1)
+stored buffer at b room = record { place = refl; bytes = byte buffer at b room }
 
 -- a buffer with a text in it is as long as it was
 pub as_long : (buffer text : List ℕ) (at : ℕ) → at + length text ≤ length buffer → length (laid_at at text buffer) ≡ length buffer

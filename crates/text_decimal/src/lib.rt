@@ -3,8 +3,23 @@
 
 ghost use Rattle.std.specs.Prelude.{◌∷◌, [], ◌+◌, ◌≤◌, length};
 ghost use Rattle.rules.specs.Lines.{line_of, line_of2};
-ghost use Rattle.text_decimal.specs.Put.{digits_of, field_of, start_of};
+ghost use Rattle.text_decimal.specs.Put.{digits_of, field_of, start_of, Put};
 ghost use Rattle.text_decimal.specs.Wrote.{Room, Wrote};
+
+// Lays the digits of n from the place at on, and answers the place after them.
+// By a place and not a writer: where the place stands in memory each digit waits for the one before.
+fn put_digits(out: &mut [u8], at: usize, n: u64) -> usize
+    requires { at + length (digits_of n) ≤ length out.old }
+    ensures { Put at (digits_of n) out.old out.new result }
+{
+    if n < 10 {
+        out[at] = 48 + n as u8;
+        return at + 1;
+    }
+    let last = put_digits(out, at, n / 10);
+    out[last] = 48 + (n % 10) as u8;
+    last + 1
+}
 
 // A lent buffer, and the place that the next byte is laid at.
 #[derive(Drop)]
@@ -28,11 +43,7 @@ impl<'a> Writer<'a> {
         requires { Room self.old (length (digits_of n)) }
         ensures { Wrote self.old (digits_of n) self.new }
     {
-        if n < 10 {
-            return self.byte(48 + n as u8);
-        }
-        self.decimal(n / 10);
-        self.byte(48 + (n % 10) as u8);
+        self.at = put_digits(self.out, self.at, n);
     }
 
     // Lays a space and the digits of n.
