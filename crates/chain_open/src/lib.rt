@@ -2,8 +2,8 @@
 // the opening that also brings an outside share.
 #![tactic(auto)]
 
-ghost use Rattle.refusals.specs.Number.{refusal_of};
 ghost use Rattle.std.specs.Prelude.{◌≡◌, ◌≤◌, length};
+ghost use Rattle.refusals.specs.Number.{refusal_of};
 ghost use Rattle.rules.specs.Limits.{most_panel};
 ghost use Rattle.rules.specs.Chain.{open_answer};
 ghost use Rattle.rules.specs.Panel.{panel_shared, panel_answer};
@@ -62,7 +62,7 @@ impl Panel<'_> {
         }
     }
 
-    // Either opening.
+    // The opening, with an outside share or without.
     pub fn open(&self, start: u64) -> Result<Chain, Refusal>
         ensures { opening_of result ≡ panel_answer (panel_of self.now) start }
     {
