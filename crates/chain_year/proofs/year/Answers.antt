@@ -1,5 +1,6 @@
 -- `year`: without room nothing is done; else the calls that are left come to what all four do (`Under`), until one is refused or none is left.
 use native.Mathlib.Omega.{arith}
+use mathlib.Core.Path.{refl}
 use mathlib.Core.List.{[], ◌∷◌}
 use Rattle.rules.specs.Year.{four_calls}
 use Rattle.chain.specs.Record.{record_of}
@@ -9,6 +10,9 @@ use Rattle.chain_year.proofs.year.Goals as goal
 
 pub returns-then-figures-lt-YEAR_PLACES : goal.returns-then-figures-lt-YEAR_PLACES
 returns-then-figures-lt-YEAR_PLACES c = no_room (record_of c.args.chain.now) (four_calls c.args.first.now c.args.second.now c.args.third.now c.args.last.now) c.args.figures.now c.if-figures-lt-YEAR_PLACES.true
+
+pub loop-count-init : goal.loop-count-init
+loop-count-init c = record { goes_on = refl; long = refl }
 
 pub returns-in-Err : goal.returns-in-Err
 returns-in-Err c = let xs = (Quarter, c.args.first) ∷ (Quarter, c.args.second) ∷ (Quarter, c.args.third) ∷ (Close, c.args.last) ∷ [] in
