@@ -41,9 +41,3 @@ largest_at limit (x ∷ xs) h =
 pub sum_is : (l : List ℕ) → sum l ≡ std_sum l
 unfolding sum
 sum_is = is_sum_by sum (λ x. x) refl (λ _ _. refl)
-
--- numbers within a limit
-pub sum_within : (most : ℕ) (l : List ℕ) → ((i : ℕ) → get_or l i 0 ≤ most) → sum l ≤ length l * most
-unfolding sum
-sum_within most [] h = omega arith
-sum_within most (x ∷ xs) h = omega (arith, h 0, sum_within most xs (λ i. h (suc i)))

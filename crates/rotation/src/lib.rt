@@ -90,7 +90,12 @@ fn turn(asked: &Rotation, leavers: &mut [u32]) -> Result<Rotated, Refusal>
         members: &places[..many],
         z: asked.z,
     };
-    match leave(frame.numbers, &search, required(asked.fraction, many), leavers) {
+    match leave(
+        frame.numbers,
+        &search,
+        required(asked.fraction, many),
+        leavers,
+    ) {
         Some(rotated) => Ok(rotated),
         None => Err(Refusal::NoStep),
     }

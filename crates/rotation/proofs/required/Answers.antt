@@ -2,16 +2,12 @@
 use mathlib.Core.Path.{◌≡◌, ◌∙◌}
 use Prim.Native.Nat.{ℕ, ◌+◌, ◌/◌}
 use native.Mathlib.Omega.{arith}
-use native.Mathlib.Nat.{mul-le-mul}
 use Rattle.std.specs.Int.{div_ceil}
 use Rattle.rules.specs.Rotation.{required}
 use Rattle.rotation.proofs.required.Goals as goal
 
 rounded_up : (x : ℕ) → div_ceil x 1000 ≡ (x + 999) / 1000
 rounded_up x = omega arith
-
-pub overflow_mul-thousandths : goal.overflow_mul-thousandths
-overflow_mul-thousandths c = omega (arith, mul-le-mul c.requires.0 c.requires.1)
 
 pub returns : goal.returns
 unfolding required

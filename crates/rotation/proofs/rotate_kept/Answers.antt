@@ -5,9 +5,6 @@ use Rattle.refusals.specs.Number.{refusal_of}
 use Rattle.rotation.proofs.Composition.{refused_early}
 use Rattle.rotation.proofs.rotate_kept.Goals as goal
 
-pub turn-requires : goal.turn-requires
-turn-requires c = sym c.judge.ensures ∙ ap refusal_of c.in_ok-judge.was
-
 pub returns-in_err-judge : goal.returns-in_err-judge
 returns-in_err-judge c =
     let p = err_from_is_err_and c.from_residual.result c.from_residual.ensures.1 in

@@ -1,17 +1,11 @@
 -- `outside` meets its contract: the births below i are in the frame, which is passed as far.
-use mathlib.Core.Path.{◌≡◌, refl, sym, ap, ◌∙◌}
+use mathlib.Core.Path.{◌≡◌, sym, ap, ◌∙◌}
 use mathlib.Core.Bool.{not}
 use lib.ListN.{get_or}
 use Rattle.rules.specs.Lists.{elem}
 use Rattle.rules.proofs.Lists.{one_found, one_next, one_none}
-use Rattle.rotation_seek.proofs.Passing.{stand_first, stand_on, reached_elem}
+use Rattle.rotation_seek.proofs.Passing.{stand_on, reached_elem}
 use Rattle.rotation_births.proofs.outside.Goals as goal
-
-pub loop-unit-init : goal.loop-unit-init
-loop-unit-init c = (stand_first _ _, refl)
-
-pub seek-j-requires : goal.seek-j-requires
-seek-j-requires c = c.loop-unit.invariant.0.passed c.loop-unit-test.true
 
 -- the unit at i is absent if it does not stand where the search for it stopped
 pub returns-then-not-stands_at : goal.returns-then-not-stands_at

@@ -14,15 +14,6 @@ use Rattle.rotation_members.proofs.members.Goals.{then-is_member, else-is_member
 pub loop-i-init : goal.loop-i-init
 loop-i-init c = record { in_panel = stand_first _ _; in_births = stand_first _ _; fewer = omega arith; filled = fill_none }
 
-pub seek-j-requires : goal.seek-j-requires
-seek-j-requires c = c.loop-i.invariant.in_panel.passed c.loop-i-test.true
-
-pub seek-b-requires : goal.seek-b-requires
-seek-b-requires c = c.loop-i.invariant.in_births.passed c.loop-i-test.true
-
-pub is_member-requires : goal.is_member-requires
-is_member-requires c = (c.requires.judgeable, omega (arith, c.requires.numbers_len.0, c.loop-i-test.true))
-
 -- in a turn there is room for one more member
 pub offset_bounds-places-count : goal.offset_bounds-places-count
 offset_bounds-places-count c = omega (arith, fill_few c.loop-i.invariant.filled, c.loop-i-test.true, c.requires.numbers_len.1, c.well_formed)
@@ -31,9 +22,6 @@ pub bounds-places-count : goal.bounds-places-count
 bounds-places-count c =
     let room : c.loop-i.count < length c.args.places.now = omega (arith, fill_few c.loop-i.invariant.filled, c.loop-i-test.true, c.requires.numbers_len.1) in
     omega (arith, room, fill_length c.loop-i.invariant.filled (omega arith))
-
-pub overflow_add-count : goal.overflow_add-count
-overflow_add-count c = omega (arith, fill_few c.loop-i.invariant.filled, c.loop-i-test.true, c.requires.numbers_len.1, c.well_formed)
 
 pub loop-i-preserved : goal.loop-i-preserved
 loop-i-preserved c =
@@ -55,12 +43,3 @@ loop-i-preserved c =
       | then-is_member w ↦ rw (w.places-is, w.count-is) (turn_in _ _ _ _ _ _ _ _ _ _ _ at up.0 up.1 up.2 l old birth (tested ∙ w.if-is_member.true) room)
       | else-is_member w ↦ rw (w.places-is, w.count-is) (turn_out _ _ _ _ _ _ _ _ _ _ _ at up.0 up.1 up.2 l old birth (tested ∙ w.if-is_member.false))
     ])
-
-pub returns : goal.returns
-returns c =
-    let at = c.loop-i in
-    let all : at.i ≡ length c.args.frame.now.numbers.now = omega (arith, at.invariant.in_panel.in_frame) in
-    record {
-      filled = rw all at at.invariant.filled;
-      upper_bound = omega (arith, at.invariant.fewer, at.invariant.in_panel.in_list, at.invariant.in_births.in_list);
-    }
