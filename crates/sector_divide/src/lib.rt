@@ -1,4 +1,5 @@
 // Document 02, [10]: the quotas' whole parts and remainders, by what is left to share and the marks of the sectors that left.
+// Marks are bytes, 0 for still there: a list of Booleans would ask more of a caller than before.
 #![tactic(auto)]
 
 ghost use Rattle.std.specs.Prelude.{◌≡◌, cond, ◌*◌, ◌/◌, ◌%◌, ◌≤◌, ◌<◌};
@@ -57,6 +58,7 @@ pub fn divide(left: Left, sharing: &Sharing, gone: &[u8]) -> Quotas
     ensures wholes_value { result.wholes ≡ in_places (sectors (sharing_of sharing.now)) (whole_by left.rest left.total (sharing_of sharing.now) gone.now) }
     ensures remainders_value { result.remainders ≡ in_places (sectors (sharing_of sharing.now)) (remainder_by left.rest left.total (sharing_of sharing.now) gone.now) }
 {
+    // Minima and marks by index: over a zip with `enumerate` (tried) the loop has no index, and the proof did not close.
     let minima = sharing.minima;
     let mut counts = [0; MOST_SECTORS];
     let mut wholes = [0; MOST_SECTORS];

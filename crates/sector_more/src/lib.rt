@@ -1,4 +1,5 @@
 // Document 02, [10]: one more interview each, by largest remainder, earlier sector first.
+// Marks are bytes, 0 for still there: a list of Booleans would ask more of a caller than before.
 #![tactic(auto)]
 
 ghost use Rattle.std.specs.Prelude.{◌≤◌, length};
@@ -42,7 +43,7 @@ fn rank_still(
 }
 
 // One more for each of the `more` sectors with the largest remainders, of those that are still there.
-// The lists have their fixed 64 places, so how many sectors there are stands beside them.
+// How many sectors there are stands beside the lists: lists cut to it would ask more of a caller than before.
 pub fn give(remainders: &[u64], gone: &[u8], sectors: usize, more: usize, counts: &mut [u64])
     requires { Givable remainders.now gone.now sectors more counts.old }
     ensures { Given (still_in gone.now) (larger remainders.now) sectors more counts.old counts.new }

@@ -20,8 +20,8 @@ fn sum_marked(values: &[u64], gone: &[u8], still: bool) -> u64
     ensures { result ≡ sum_of (marked_as still gone.now) (value_of values.now) (length values.now) }
 {
     let mut sum: u64 = 0;
-    for (i, value) in values.iter().enumerate() {
-        if (gone[i] == 0) == still {
+    for (value, mark) in values.iter().zip(gone) {
+        if (*mark == 0) == still {
             sum += *value;
         }
     }
@@ -69,6 +69,7 @@ fn pass(left: Left, sharing: &Sharing, gone: &mut [u8]) -> usize
     ensures value { result ≡ count (λ i. still_in gone.old i and is_below left.rest left.total (sharing_of sharing.now) i) (sectors (sharing_of sharing.now)) }
     ensures by_index { (i : ℕ) → still_in gone.new i ≡ (still_in gone.old i and not (is_below left.rest left.total (sharing_of sharing.now) i)) }
 {
+    // Minima by index: over a zip with `enumerate` (tried) the loop has no index, and the proof did not close.
     let minima = sharing.minima;
     let mut leave: usize = 0;
     for (i, strength) in sharing.strengths.iter().enumerate() {

@@ -1,5 +1,4 @@
 -- After i turns the list holds those of the first i sectors that are still there (`Held`).
-use mathlib.Core.Bool.{true, false}
 use mathlib.Core.Path.{◌≡◌, refl, ap, ◌∙◌, subst}
 use Prim.Native.Nat.{ℕ, ◌≤◌}
 use native.Mathlib.Omega.{arith}
