@@ -5,7 +5,7 @@ use Rattle.rules.specs.Selection.{count, firsts}
 use Rattle.sector_passes.specs.Marks.{still_in}
 
 -- Each sector has a remainder, a mark and a count; those that are still there are enough.
-pub record Givable (remainders : List ℕ) (gone : List Bool) (n more : ℕ) (counts : List ℕ) : Type 0 where
+pub record Givable (remainders gone : List ℕ) (n more : ℕ) (counts : List ℕ) : Type 0 where
   pub few : n ≤ most_sectors
   pub keys : n ≤ length remainders
   pub marks : n ≤ length gone

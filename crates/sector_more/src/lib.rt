@@ -1,4 +1,5 @@
 // Document 02, [10]: one more interview each, by largest remainder, earlier sector first.
+// Marks are bytes, 0 for still there: a list of Booleans would ask more of a caller than before.
 #![tactic(auto)]
 
 ghost use Rattle.std.specs.Prelude.{◌≤◌, length};
@@ -12,13 +13,13 @@ ghost use Rattle.sector_more.specs.Given.{Givable, Given};
 use limits::MOST_SECTORS;
 
 // The sectors that are still there, in their order. Gives how many they are.
-fn list_still(gone: &[bool], sectors: usize, places: &mut [usize]) -> usize
+fn list_still(gone: &[u8], sectors: usize, places: &mut [usize]) -> usize
     requires { (sectors ≤ length gone.now) × (sectors ≤ length places.old) }
     ensures { Held (still_in gone.now) (λ i. i) sectors places.new result }
 {
     let mut many: usize = 0;
     for i in 0..sectors {
-        if !gone[i] {
+        if gone[i] == 0 {
             places[many] = i;
             many += 1;
         }
@@ -29,7 +30,7 @@ fn list_still(gone: &[bool], sectors: usize, places: &mut [usize]) -> usize
 // The same, by largest remainder.
 fn rank_still(
     remainders: &[u64],
-    gone: &[bool],
+    gone: &[u8],
     sectors: usize,
     places: &mut [usize],
     buffer: &mut [usize],
@@ -42,8 +43,8 @@ fn rank_still(
 }
 
 // One more for each of the `more` sectors with the largest remainders, of those that are still there.
-// The lists have their fixed 64 places, so how many sectors there are stands beside them.
-pub fn give(remainders: &[u64], gone: &[bool], sectors: usize, more: usize, counts: &mut [u64])
+// How many sectors there are stands beside the lists: lists cut to it would ask more of a caller than before.
+pub fn give(remainders: &[u64], gone: &[u8], sectors: usize, more: usize, counts: &mut [u64])
     requires { Givable remainders.now gone.now sectors more counts.old }
     ensures { Given (still_in gone.now) (larger remainders.now) sectors more counts.old counts.new }
 {

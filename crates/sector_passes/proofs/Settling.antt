@@ -18,7 +18,7 @@ use Rattle.selection.proofs.Terms.{sum_every, sum_most}
 use Rattle.sector_quota.specs.Accepted.{Accepted}
 use Rattle.sector_quota.proofs.Accepted.{minimum_fits}
 use Rattle.sector_passes.specs.Marks.{still_in, is_below, Summable, Passable}
-use Rattle.sector_passes.proofs.Marked.{still_is}
+use Rattle.sector_passes.proofs.Marked.{still_on}
 
 -- a minimum that is not there is 0, and no quota is below it
 pub beyond_below : (rest total : ℕ) (a : Sharing) (k : ℕ) → length a.minima ≤ k → is_below rest total a k ≡ false
@@ -30,15 +30,10 @@ zeros_at zero i = refl
 zeros_at (suc n) zero = refl
 zeros_at (suc n) (suc i) = zeros_at n i
 
-none_marked : (n i : ℕ) → get_or (replicate n false) i false ≡ false
-none_marked zero i = refl
-none_marked (suc n) zero = refl
-none_marked (suc n) (suc i) = none_marked n i
+none_gone : (n : ℕ) → still_in (replicate n 0) ≡ every
+none_gone n = fun_ext (λ i. still_on (replicate n 0) i (zeros_at n i))
 
-none_gone : (n : ℕ) → still_in (replicate n false) ≡ every
-none_gone n = fun_ext (λ i. still_is (replicate n false) i false (none_marked n i))
-
-module _ (a : Sharing) (ok : Accepted a) (gone : List Bool) (full : length gone ≡ most_sectors) where
+module _ (a : Sharing) (ok : Accepted a) (gone : List ℕ) (full : length gone ≡ most_sectors) where
   -- ---- what is lent
   strengths_low : (still : ℕ → Bool) → strengths_left a still ≤ most_sectors * highest_strength
   unfolding strengths_left
@@ -88,7 +83,7 @@ module _ (a : Sharing) (ok : Accepted a) (gone : List Bool) (full : length gone 
     leaves_are leave m =
         m ∙ ap₂ (λ (r t : ℕ). count (λ i. still_in gone i and is_below r t a i) (sectors a)) rest_is total_is
 
-    pub stays_are : (new : List Bool) → ((i : ℕ) → still_in new i ≡ (still_in gone i and not (low i))) → still_in new ≡ staying a (still_in gone)
+    pub stays_are : (new : List ℕ) → ((i : ℕ) → still_in new i ≡ (still_in gone i and not (low i))) → still_in new ≡ staying a (still_in gone)
     unfolding staying quota_below
     stays_are new h =
         fun_ext h ∙ ap₂ {C = ℕ → Bool} (λ (r t : ℕ). λ i. still_in gone i and not (is_below r t a i)) rest_is total_is
@@ -106,16 +101,16 @@ module _ (a : Sharing) (ok : Accepted a) where
           (λ l. sym (and_on (still i) (quota_below a still i) h) ∙ count_rest (leaving a still) 0 (sectors a) (count_zero _ ∙ sym e) i zero-le l)
           (λ l. beyond_below (remaining a still) (strengths_left a still) a i (omega (arith, ok.same)))
 
-  pub passes_start : stayed a ≡ passes (sectors a - 0) a (still_in (replicate most_sectors false))
+  pub passes_start : stayed a ≡ passes (sectors a - 0) a (still_in (replicate most_sectors 0))
   unfolding stayed
   passes_start = let s : sectors a - 0 ≡ sectors a = omega arith in rw (s, none_gone most_sectors)
 
-  module _ (gone : List Bool) (k : ℕ) (done : stayed a ≡ passes (sectors a - k) a (still_in gone)) where
+  module _ (gone : List ℕ) (k : ℕ) (done : stayed a ≡ passes (sectors a - k) a (still_in gone)) where
     pub passes_end : sectors a ≤ k → still_in gone ≡ stayed a
     unfolding passes
     passes_end l = let s : sectors a - k ≡ 0 = omega arith in sym (rw s at done)
 
-    module _ (new : List Bool) (next : still_in new ≡ staying a (still_in gone)) (l : k < sectors a) where
+    module _ (new : List ℕ) (next : still_in new ≡ staying a (still_in gone)) (l : k < sectors a) where
       one_less : sectors a - k ≡ suc (sectors a - (k + 1))
       one_less = omega arith
 

@@ -21,7 +21,7 @@ module _ (mark : ℕ → Bool) (values : List ℕ) where
 
   module _ (sum i : ℕ) (w : Summed mark values sum i) where
     -- the next of them fits
-    pub summed_room : (gone : List Bool) → Summable values gone → i < length values → mark i ≡ true → sum + value_of values i ≤ most_sectors * highest_strength
+    pub summed_room : (gone : List ℕ) → Summable values gone → i < length values → mark i ≡ true → sum + value_of values i ≤ most_sectors * highest_strength
     summed_room gone ok l h =
         omega (arith, w.is, sum_room mark (value_of values) i (length values) h l, sum_every mark (value_of values) (length values), ok.low)
 

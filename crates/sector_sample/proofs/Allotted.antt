@@ -30,7 +30,7 @@ unfolding one_more firsts
 not_more a still i h = and_off (still i) _ h
 
 -- the marks are those of the last pass, and what is left to share is what they leave
-pub record Ready (a : Sharing) (gone : List Bool) (rest total : ℕ) : Type 0 where
+pub record Ready (a : Sharing) (gone : List ℕ) (rest total : ℕ) : Type 0 where
   pub ok : Accepted a
   pub full : length gone ≡ most_sectors
   pub settled : still_in gone ≡ stayed a
@@ -38,11 +38,11 @@ pub record Ready (a : Sharing) (gone : List Bool) (rest total : ℕ) : Type 0 wh
   pub total_same : total ≡ strengths_left a (still_in gone)
 
 pub ready :
-    {a : Sharing} {gone : List Bool} {rest total : ℕ} → Accepted a → length gone ≡ most_sectors → still_in gone ≡ stayed a
+    {a : Sharing} {gone : List ℕ} {rest total : ℕ} → Accepted a → length gone ≡ most_sectors → still_in gone ≡ stayed a
     → rest ≡ remaining a (still_in gone) → total ≡ strengths_left a (still_in gone) → Ready a gone rest total
 ready ok full settled rest total = record { ok = ok; full = full; settled = settled; rest_same = rest; total_same = total }
 
-module _ (a : Sharing) (gone : List Bool) (rest total : ℕ) (known : Ready a gone rest total) where
+module _ (a : Sharing) (gone : List ℕ) (rest total : ℕ) (known : Ready a gone rest total) where
   abbrev ok : Accepted a
   ok = known.ok
 

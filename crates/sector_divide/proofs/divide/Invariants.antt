@@ -1,5 +1,4 @@
 -- After i turns the first i sectors stand in the three lists (`Laid`).
-use mathlib.Core.Bool.{Bool}
 use mathlib.Core.List.{List}
 use Prim.Native.Nat.{ℕ, ◌≤◌}
 use Rattle.rules.specs.Allocation.{Sharing, sectors}
@@ -8,7 +7,7 @@ use Rattle.sector_divide.specs.Quotas.{count_by, whole_by, remainder_by, Dividab
 use Rattle.sector_divide.proofs.Laid.{Laid}
 use Rattle.sector_divide.proofs.divide.Given as goal
 
-pub record Divided (rest total : ℕ) (a : Sharing) (gone : List Bool) (counts wholes remainders : List ℕ) (i : ℕ) : Type 0 where
+pub record Divided (rest total : ℕ) (a : Sharing) (gone counts wholes remainders : List ℕ) (i : ℕ) : Type 0 where
   pub most : i ≤ sectors a
   pub asked : Dividable rest total a gone
   pub count : Laid (sectors a) (count_by rest total a gone) i counts

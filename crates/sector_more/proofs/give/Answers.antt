@@ -1,6 +1,5 @@
 -- After k turns the k first of the sectors that are still there have one more (`Given`).
 use mathlib.Core.Path.{◌≡◌, sym, subst}
-use mathlib.Core.Bool.{Bool}
 use mathlib.Core.List.{List}
 use Prim.Native.Nat.{ℕ, ◌≤◌, ◌<◌}
 use native.Mathlib.Omega.{arith}
@@ -19,7 +18,7 @@ use Rattle.sector_more.proofs.Giving.{given_none, given_here, given_more}
 use Rattle.sector_more.proofs.give.Goals as goal
 
 -- what the places hold, over plain values
-module _ (keys : List ℕ) (gone : List Bool) (n more : ℕ) (counts₀ places : List ℕ) (asked : Givable keys gone n more counts₀)
+module _ (keys gone : List ℕ) (n more : ℕ) (counts₀ places : List ℕ) (asked : Givable keys gone n more counts₀)
     (all : Ranked (still_in gone) (larger keys) n places (count (still_in gone) n)) (long : length places ≡ most_sectors) where
   more_room : more ≤ length places
   more_room = omega (arith, asked.enough, count_le (still_in gone) n, asked.few, long)

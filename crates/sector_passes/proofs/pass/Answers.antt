@@ -10,7 +10,7 @@ use Rattle.sector_judge.specs.Sharing.{sharing_of}
 use Rattle.sector_passes.specs.Marks.{still_in, is_below}
 use Rattle.sector_passes.proofs.Passed.{Passed, passed_none, passed_same, passed_all, turn_gone, turn_stays, turn_leaves}
 use Rattle.sector_passes.proofs.Settling.{beyond_below}
-use Rattle.sector_passes.proofs.pass.Goals.{then-not-gone-i+then-left-strength, else-not-gone-i, else-not-gone-i-via-then-not-gone-i+else-left-strength, else-not-gone-i-via-else-not-gone-i}
+use Rattle.sector_passes.proofs.pass.Goals.{then-gone-i-eq0+then-left-strength, else-gone-i-eq0, else-gone-i-eq0-via-then-gone-i-eq0+else-left-strength, else-gone-i-eq0-via-else-gone-i-eq0}
 use Rattle.sector_passes.proofs.pass.Goals as goal
 
 pub loop-i-init : goal.loop-i-init
@@ -24,21 +24,21 @@ loop-i-preserved c =
     let at = c.loop-i in
     let l = c.loop-i-test.true in
     let room : at.i < length at.gone = omega (arith, l, at.invariant.same, c.requires.room) in
-    elim c.if-not-gone-i.branch [
-      | then-not-gone-i+then-left-strength w ↦ record {
+    elim c.if-gone-i-eq0.branch [
+      | then-gone-i-eq0+then-left-strength w ↦ record {
         most = omega (arith, l);
         few = omega (arith, w.leave-is, at.invariant.few);
         same = ap length w.gone-is ∙ simp length-set at.invariant.same;
         marks = passed_same still below _ _ _ _ _ w.gone-is w.leave-is
-            (turn_leaves still below _ _ _ at.invariant.marks w.if-not-gone-i.true (lt-ltb _ _ w.if-left-strength.true) room);
+            (turn_leaves still below _ _ _ at.invariant.marks w.if-gone-i-eq0.true (lt-ltb _ _ w.if-left-strength.true) room);
       }
-      | else-not-gone-i w ↦ record {
+      | else-gone-i-eq0 w ↦ record {
         most = omega (arith, l);
         few = omega (arith, w.leave-is, at.invariant.few);
         same = ap length w.gone-is ∙ at.invariant.same;
-        marks = passed_same still below _ _ _ _ _ w.gone-is w.leave-is (elim w.else-not-gone-i.branch [
-          | else-not-gone-i-via-then-not-gone-i+else-left-strength v ↦ turn_stays still below _ _ _ at.invariant.marks v.if-not-gone-i.true (le-ltb _ _ v.if-left-strength.false)
-          | else-not-gone-i-via-else-not-gone-i v ↦ turn_gone still below _ _ _ at.invariant.marks v.if-not-gone-i.false
+        marks = passed_same still below _ _ _ _ _ w.gone-is w.leave-is (elim w.else-gone-i-eq0.branch [
+          | else-gone-i-eq0-via-then-gone-i-eq0+else-left-strength v ↦ turn_stays still below _ _ _ at.invariant.marks v.if-gone-i-eq0.true (le-ltb _ _ v.if-left-strength.false)
+          | else-gone-i-eq0-via-else-gone-i-eq0 v ↦ turn_gone still below _ _ _ at.invariant.marks v.if-gone-i-eq0.false
         ]);
       }
     ]

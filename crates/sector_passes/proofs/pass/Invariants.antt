@@ -1,6 +1,5 @@
 -- Each turn leaves the marks as the pass says (`Passed`); the two products of a turn fit.
 use mathlib.Core.Path.{◌≡◌}
-use mathlib.Core.Bool.{Bool}
 use mathlib.Core.List.{List}
 use Rattle.rules.specs.Allocation.{Sharing, sectors}
 use Rattle.sector_judge.specs.Sharing.{sharing_of}
@@ -10,7 +9,7 @@ use Prim.Native.Nat.{ℕ, ◌≤◌}
 use lib.ListN.{length}
 use Rattle.sector_passes.proofs.pass.Given as goal
 
-pub record Turned (rest total : ℕ) (a : Sharing) (gone₀ gone : List Bool) (leave i : ℕ) : Type 0 where
+pub record Turned (rest total : ℕ) (a : Sharing) (gone₀ gone : List ℕ) (leave i : ℕ) : Type 0 where
   pub most : i ≤ sectors a
   pub few : leave ≤ i
   pub same : length gone ≡ length gone₀

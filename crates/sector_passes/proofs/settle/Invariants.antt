@@ -1,6 +1,5 @@
 -- After k passes the rest of them from the marks at hand is the whole (proofs/Settling.antt).
 use mathlib.Core.Path.{◌≡◌}
-use mathlib.Core.Bool.{Bool}
 use mathlib.Core.List.{List}
 use Rattle.rules.specs.Limits.{most_sectors}
 use Rattle.sector_passes.specs.Marks.{still_in}
@@ -10,7 +9,7 @@ use Rattle.rules.specs.Allocation.{Sharing, sectors, passes, stayed}
 use Rattle.sector_judge.specs.Sharing.{sharing_of}
 use Rattle.sector_passes.proofs.settle.Given as goal
 
-pub record Going (a : Sharing) (gone : List Bool) (k : ℕ) : Type 0 where
+pub record Going (a : Sharing) (gone : List ℕ) (k : ℕ) : Type 0 where
   pub most : k ≤ sectors a
   pub full : length gone ≡ most_sectors
   pub rest : stayed a ≡ passes (sectors a - k) a (still_in gone)
