@@ -70,7 +70,7 @@ module _ (j : Job) (z start : ℕ) (part : Frame) (same_frame : part ≡ (job_of
 
     pub draw_accepted : (a : Sampled) (left : Job) (ns ws : List ℕ) → told ≡ Ok a → ns ≡ draw_numbers part z start (each 0) (each 0)
         → ws ≡ draw_weights part z start (each 0) (each 0) → left ≡ panel_held j z ws
-        → Steps j (Command.draw z start) (record { job = left; says = Ok Panel; numbers = ns })
+        → Steps j (Command.draw z start) (record { job = left; says = Ok (Panel ns) })
     unfolding step on_draw draw_numbers_by draw_weights_by
     draw_accepted a left ns ws t d w l =
         let none = (given_tells (frame_refusal f z start) answer (record { sample_size = a.n; rest = a.rest }) (answered _ t)).0 in

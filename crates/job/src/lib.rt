@@ -21,8 +21,7 @@ pub fn on_draw(job: Job, size: u8, start: u32) -> Stepped
         Err(why) => said(job, Err(why)),
         Ok(_) => Stepped {
             job: job_state::drawn(job, z, weights),
-            says: Ok(Saying::Panel),
-            numbers,
+            says: Ok(Saying::Panel(numbers)),
         },
     }
 }

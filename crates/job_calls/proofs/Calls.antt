@@ -47,12 +47,12 @@ module _ (j : Job) where
   next_kind Kind.Quarter = refl
   next_kind Kind.Close = refl
 
-said_kind : (kind : Kind) (ps : List ℕ) (f : ℕ) (ns ws : List ℕ)
-    → saying_by (Ok (Figure kind f)) ns ws ≡ Judged.given (figure_said (call_by kind ps) f)
-said_kind Kind.Quarter ps f ns ws = refl
-said_kind Kind.Close ps f ns ws = refl
+said_kind : (kind : Kind) (ps : List ℕ) (f size : ℕ) (ws : List ℕ)
+    → saying_by (Ok (Figure kind f)) size ws ≡ Judged.given (figure_said (call_by kind ps) f)
+said_kind Kind.Quarter ps f size ws = refl
+said_kind Kind.Close ps f size ws = refl
 
-none_drawn : (kind : Kind) (ps : List ℕ) (f : ℕ) → numbers_beside (Judged.given (figure_said (call_by kind ps) f)) ≡ each 0
+none_drawn : (kind : Kind) (ps : List ℕ) (f : ℕ) → each 0 ≡ numbers_beside (Judged.given (figure_said (call_by kind ps) f))
 none_drawn Kind.Quarter ps f = refl
 none_drawn Kind.Close ps f = refl
 
@@ -103,7 +103,7 @@ module _ (j : Job) (kind : Kind) (r : Stepped) where
         let ruled = ap job_of next ∙ chain_held_lem j (accepted held call) places in
         let is-next : left ≡ job_next j (command_by kind) = l ∙ ap (λ (x : Chain). chain_held j (chain_from x)) moves ∙ sym next in
         plain_step_lem j (command_by kind) (call_refusal held call) _ _ r by_call n.0 ruled (Ok (Figure kind f)) left is-next p
-        (λ ns ws. ap (λ (x : ℕ). saying_by (Ok (Figure kind x)) ns ws) n.1 ∙ said_kind kind _ figure ns ws) (none_drawn kind _ figure)
+        (λ size ws. ap (λ (x : ℕ). saying_by (Ok (Figure kind x)) size ws) n.1 ∙ said_kind kind _ figure size ws) (none_drawn kind _ figure)
 
 -- ---- open: 19 without a panel, and else what the opening answers
 module _ (j : Job) (start : ℕ) (r : Stepped) (places : length j.panel.weights ≡ most_panel) where
@@ -154,4 +154,4 @@ module _ (j : Job) (start : ℕ) (r : Stepped) (places : length j.panel.weights 
         let n = given_tells opening opened (record_of c) (told_of _ t) in
         let is-next : left ≡ chain_opened j start = l ∙ ap (λ (x : Chain). chain_held j (chain_from x)) n.1 in
         plain_step_lem j _ (without then opening) _ _ r refl (panel_first ∙ n.0) (chain_held_lem j opened places) (Ok Nothing)
-        left is-next p (λ ns ws. refl) refl
+        left is-next p (λ size ws. refl) refl

@@ -14,11 +14,11 @@ use Rattle.job_state.specs.declared.Saying.{Saying}
 use Rattle.std.proofs.Common.{Result, Err}
 use Rattle.job_state.specs.declared.Stepped.{Stepped}
 use Rattle.job_state.specs.State.{job_of, saying_by, saying_from, step_from}
-use Rattle.job_state.specs.Steps.{each, plain_step, job_next, job_after, numbers_beside, Steps}
+use Rattle.job_state.specs.Steps.{plain_step, job_next, job_after, numbers_told, numbers_beside, Steps}
 
 -- a step that equals the one of `rules`
 by_step : (j : Job) (command : Command) (r : Stepped) (done : Step) → step (job_of j) command ≡ done → step_from r ≡ done
-    → r.job ≡ job_after done.says j (job_next j command) → r.numbers ≡ numbers_beside done.says → Steps j command r
+    → r.job ≡ job_after done.says j (job_next j command) → numbers_told r.says ≡ numbers_beside done.says → Steps j command r
 by_step j command r done e s p ns =
     record {
       ruled = s ∙ sym e;
@@ -35,15 +35,15 @@ module _ (j : Job) (command : Command) (n : ℕ) (left : rules.Job) (says : rule
     where
       go : (m : ℕ) → number_of why ≡ m → step (job_of j) command ≡ step_by m (job_of j) left says → Steps j command r
       go zero q o = absurd (not_none why 0 q refl)
-      go (suc m) q o = by_step j command r _ o (cc) (cc) (cc)
+      go (suc m) q o = by_step j command r _ o (cc) (cc) (ap (λ (x : Stepped). numbers_told x.says) p)
 
   module _ (e : n ≡ 0) (l : job_of (job_next j command) ≡ left) where
-    pub accepted_step : r.job ≡ job_next j command → saying_from r ≡ Judged.given says → r.numbers ≡ numbers_beside (Judged.given says)
+    pub accepted_step : r.job ≡ job_next j command → saying_from r ≡ Judged.given says → numbers_told r.says ≡ numbers_beside (Judged.given says)
         → Steps j command r
     accepted_step p s ns = by_step j command r (step_by 0 (job_of j) left says) (rw e at by) (cc) p ns
 
-    -- one that draws no panel
+    -- one whose saying is told
     pub plain_step_lem : (s : Result Saying Refusal) (next : Job) → next ≡ job_next j command → r ≡ plain_step next s
-        → ((ns ws : List ℕ) → saying_by s ns ws ≡ Judged.given says) → numbers_beside (Judged.given says) ≡ each 0 → Steps j command r
-    plain_step_lem s next k p said none =
-        accepted_step (ap (λ (x : Stepped). x.job) p ∙ k) (ap saying_from p ∙ said _ _) (ap (λ (x : Stepped). x.numbers) p ∙ sym none)
+        → ((size : ℕ) (ws : List ℕ) → saying_by s size ws ≡ Judged.given says) → numbers_told s ≡ numbers_beside (Judged.given says) → Steps j command r
+    plain_step_lem s next k p said told =
+        accepted_step (ap (λ (x : Stepped). x.job) p ∙ k) (ap saying_from p ∙ said _ _) (ap (λ (x : Stepped). numbers_told x.says) p ∙ told)

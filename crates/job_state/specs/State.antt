@@ -42,17 +42,17 @@ job_of j =
       chain = chain_of j.chain;
     }
 
--- what a command says, with the unit numbers and the W of the panel
-abbrev pub saying_by : Result Saying Refusal → List ℕ → List ℕ → Judged rules.Saying
-saying_by (Err why) numbers weights = Judged.refused (number_of why)
-saying_by (Ok Nothing) numbers weights = Judged.given rules.Saying.nothing
-saying_by (Ok Panel) numbers weights = Judged.given (rules.Saying.panel_drawn numbers weights)
-saying_by (Ok (Figure Quarter f)) numbers weights = Judged.given (rules.Saying.quarter_figure f)
-saying_by (Ok (Figure Close f)) numbers weights = Judged.given (rules.Saying.close_figure f)
+-- what a command says, with the size and the W of the panel
+abbrev pub saying_by : Result Saying Refusal → ℕ → List ℕ → Judged rules.Saying
+saying_by (Err why) size weights = Judged.refused (number_of why)
+saying_by (Ok Nothing) size weights = Judged.given rules.Saying.nothing
+saying_by (Ok (Panel numbers)) size weights = Judged.given (rules.Saying.panel_drawn (take size numbers) weights)
+saying_by (Ok (Figure Quarter f)) size weights = Judged.given (rules.Saying.quarter_figure f)
+saying_by (Ok (Figure Close f)) size weights = Judged.given (rules.Saying.close_figure f)
 
 -- what the code's step says: a panel is that of the job it leaves
 abbrev pub saying_from : Stepped → Judged rules.Saying
-saying_from s = saying_by s.says (take s.job.panel.size s.numbers) (job_of s.job).panel
+saying_from s = saying_by s.says s.job.panel.size (job_of s.job).panel
 
 -- the code's step: the next job and what is said
 abbrev pub step_from : Stepped → rules.Step

@@ -1,6 +1,6 @@
 -- Document 01, "Job stream", every place: what a command leaves of the code's job and hands back beside it, whole. `job_of` (State.antt) reads the
 -- first places of the arrays alone; here each place and each field is given from what came in.
-use Rattle.std.specs.Prelude.{ℕ, ◌+◌, ◌≡◌, List, set, replicate, Option, Some, None, Result}
+use Rattle.std.specs.Prelude.{ℕ, ◌+◌, ◌≡◌, List, set, replicate, Option, Some, None, Result, Ok, Err}
 use Rattle.refusals.specs.declared.Refusal.{Refusal}
 use Rattle.rules.specs.Limits.{most_held, most_panel, share_scale}
 use Rattle.rules.specs.Refusals.{Judged, written}
@@ -13,6 +13,7 @@ use Rattle.chain.specs.declared.Chain.{Chain}
 use Rattle.chain.specs.Record.{record_of, chain_from}
 use Rattle.job_state.specs.declared.Job.{Job}
 use Rattle.job_state.specs.declared.Saying.{Saying}
+use Rattle.job_state.specs.declared.Saying.TheVariants.{Nothing, Panel, Figure}
 use Rattle.job_state.specs.declared.Stepped.{Stepped}
 use Rattle.job_state.specs.State.{job_of, step_from}
 
@@ -105,16 +106,23 @@ job_next j Command.quarter = chain_called j j.chain (Call.quarter (job_of j).pen
 job_next j Command.close = chain_called j j.chain (Call.close (job_of j).pending)
 
 -- ---- the step
--- a step that draws no panel: its unit numbers are 0
+-- a step that leaves this job and says this
 abbrev pub plain_step : Job → Result Saying Refusal → Stepped
-plain_step j says = record { job = j; says = says; numbers = each 0 }
+plain_step j says = record { job = j; says = says }
 
 -- "A refusal … changes nothing": the job that came in, whole, after a refusal, and else the next
 abbrev pub job_after : Judged rules.Saying → Job → Job → Job
 job_after (Judged.refused n) before next = before
 job_after (Judged.given says) before next = next
 
--- the unit numbers beside what is said: those of a drawn panel in the first places, and 0 in the others
+-- the unit numbers that the code hands back, every place; 0 where it hands back none
+abbrev pub numbers_told : Result Saying Refusal → List ℕ
+numbers_told (Err why) = each 0
+numbers_told (Ok Nothing) = each 0
+numbers_told (Ok (Panel numbers)) = numbers
+numbers_told (Ok (Figure kind f)) = each 0
+
+-- the unit numbers of what is said: those of a drawn panel in the first places, and 0 in the others
 abbrev pub numbers_beside : Judged rules.Saying → List ℕ
 numbers_beside (Judged.refused n) = each 0
 numbers_beside (Judged.given rules.Saying.nothing) = each 0
@@ -126,4 +134,4 @@ numbers_beside (Judged.given (rules.Saying.close_figure f)) = each 0
 pub record Steps (before : Job) (command : Command) (r : Stepped) : Type 0 where
   pub ruled : step_from r ≡ rules.step (job_of before) command
   pub job : r.job ≡ job_after (rules.step (job_of before) command).says before (job_next before command)
-  pub numbers : r.numbers ≡ numbers_beside (rules.step (job_of before) command).says
+  pub numbers : numbers_told r.says ≡ numbers_beside (rules.step (job_of before) command).says

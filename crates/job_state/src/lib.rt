@@ -76,31 +76,26 @@ pub struct Job {
     pub chain: Option<Chain>,
 }
 
-// What a command that is accepted says. A panel's W are in the job, and its unit numbers beside it: `Steps` gives each place of them whatever is said.
+// What a command that is accepted says: of a drawn panel the unit numbers, in the first places of an array; its W are in the job.
 #[derive(Clone, Copy)]
 pub enum Saying {
     Nothing,
-    Panel,
+    Panel([u32; MOST_PANEL]),
     Figure(Kind, u64),
 }
 
-// The job that a command leaves, what it says or the refusal, and the unit numbers of a drawn panel.
+// The job that a command leaves, and what it says or the refusal.
 #[derive(Clone, Copy)]
 pub struct Stepped {
     pub job: Job,
     pub says: Result<Saying, Refusal>,
-    pub numbers: [u32; MOST_PANEL],
 }
 
-// A step that draws no panel.
+// A step that leaves this job and says this.
 pub fn said(job: Job, says: Result<Saying, Refusal>) -> Stepped
     ensures { result ≡ plain_step job says }
 {
-    Stepped {
-        job,
-        says,
-        numbers: [0; MOST_PANEL],
-    }
+    Stepped { job, says }
 }
 
 // The job after an accepted open, quarter or close: the chain that it leaves, and no relatives.

@@ -2,7 +2,7 @@
 use Prim.Native.Nat.{ℕ, ◌≤◌}
 use mathlib.Core.Path.{◌≡◌, sym, ap, ◌∙◌}
 use mathlib.Core.List.{List}
-use lib.ListN.{length, take}
+use lib.ListN.{length}
 use borrow.Author.Tests.{le-ltb}
 use Rattle.text_lines.specs.Laid.{laid, laid_count, Lays}
 use Rattle.rules.specs.Refusals.{Judged, written}
@@ -23,10 +23,10 @@ laid_all room text want before after r e h l =
 
 -- what follows from a step that says x
 pub says : {A : Type 0} (f : Judged rules.Saying → A) (s : Stepped) (x : Result Saying Refusal) → s.says ≡ x
-    → f (saying_by x (take s.job.panel.size s.numbers) (job_of s.job).panel) ≡ f (saying_from s)
-says f s x e = ap (λ (y : Result Saying Refusal). f (saying_by y (take s.job.panel.size s.numbers) (job_of s.job).panel)) (sym e)
+    → f (saying_by x s.job.panel.size (job_of s.job).panel) ≡ f (saying_from s)
+says f s x e = ap (λ (y : Result Saying Refusal). f (saying_by y s.job.panel.size (job_of s.job).panel)) (sym e)
 
 -- the same of one that is accepted, by what it says
 pub says_ok : {A : Type 0} (f : Judged rules.Saying → A) (s : Stepped) (y x : Saying) → s.says ≡ Ok y → y ≡ x
-    → f (saying_by (Ok x) (take s.job.panel.size s.numbers) (job_of s.job).panel) ≡ f (saying_from s)
+    → f (saying_by (Ok x) s.job.panel.size (job_of s.job).panel) ≡ f (saying_from s)
 says_ok f s y x e d = says f s (Ok x) (e ∙ ap Ok d)

@@ -27,9 +27,8 @@ pub fn lay(text: &mut [u8; TEXT_ROOM], stepped: Stepped, at: usize) -> usize
     match stepped.says {
         Err(why) => text_lines::refusal_line(text, why.number(), at),
         Ok(Saying::Nothing) => 0,
-        Ok(Saying::Panel) => {
+        Ok(Saying::Panel(numbers)) => {
             let panel = stepped.job.panel;
-            let numbers = stepped.numbers;
             text_lines::panel_lines(text, &numbers[..panel.units()], panel.lent().weights)
         }
         Ok(Saying::Figure(Kind::Quarter, f)) => text_lines::quarter_line(text, f),

@@ -17,6 +17,7 @@ fn count(s: &[u8]) -> Result<usize, Refusal>
 {
     let mut t = s;
     let mut n: usize = 0;
+    // Counted by hand: an iterator over the commands would carry the refusal in its items, and be no plainer than `?`.
     'commands: while let Some(_) = stream_read::read(t)? {
         t = stream_front::unread(t);
         n += 1;
@@ -60,7 +61,7 @@ fn fill(s: &[u8], places: &mut Places)
 {
     let mut t = s;
     let mut i: usize = 0;
-    // An arm each: at a `while let Ok(Some(..))` the proof does not learn which other reading ended it.
+    // An arm each, and the place counted by hand: at a `while let Ok(Some(..))` or an arm for two, the proof does not learn which reading ended it.
     'commands: loop {
         match stream_read::read(t) {
             Err(_) => return,

@@ -90,10 +90,7 @@ impl Kind {
 pub fn width(k: u8) -> usize
     ensures { result ≡ width_of k }
 {
-    match Kind::try_from(k) {
-        Ok(kind) => kind.width(),
-        Err(_) => 1,
-    }
+    Kind::try_from(k).map_or(1, Kind::width)
 }
 
 // The command of a kind, its operands after its command byte in s.
@@ -148,6 +145,7 @@ pub fn read(s: &[u8]) -> Result<Option<Command>, Refusal>
 pub fn taken(s: &[u8]) -> usize
     ensures { result ≡ taken_of s.now }
 {
+    // An arm each (tried with one for both): there the proof does not learn which of the two it was.
     match read(s) {
         Ok(Some(_)) => width(s[0]),
         Ok(None) => 0,

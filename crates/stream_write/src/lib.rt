@@ -141,20 +141,21 @@ fn put_share(w: &mut Writer, place: u8, share: u16)
     put_two_bytes(w, share);
 }
 
-// Lays a command.
-// By its byte and not by a kind: a row is what the lists for C hold, and that may be no kind.
+// Lays a command. An arm each (tried with one for several kinds): there the proof does not learn which kind it was.
 fn put_command(w: &mut Writer, row: Row)
     requires { Room w.old (width_of row.kind) }
     ensures { Wrote w.old (command_bytes (row_from row)) w.new }
 {
     w.byte(row.kind);
-    match row.kind {
-        1 => put_unit(w, row.number, row.amount, row.random),
-        2 => put_number(w, row.size, row.number),
-        3 => put_share(w, row.size, row.share),
-        4 => put_number(w, row.size, row.number),
-        5 => put_two_words(w, row.amount),
-        _ => {}
+    match Kind::try_from(row.kind) {
+        Ok(Kind::Unit) => put_unit(w, row.number, row.amount, row.random),
+        Ok(Kind::Draw) => put_number(w, row.size, row.number),
+        Ok(Kind::Share) => put_share(w, row.size, row.share),
+        Ok(Kind::Relative) => put_number(w, row.size, row.number),
+        Ok(Kind::Open) => put_two_words(w, row.amount),
+        Ok(Kind::Quarter) => {}
+        Ok(Kind::Close) => {}
+        Err(_) => {}
     }
 }
 

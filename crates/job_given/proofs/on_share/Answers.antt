@@ -18,4 +18,4 @@ unfolding step on_share
 returns c =
     let found = among c.args.job c.args.place (search rules) _ c.place_in.ensures _ c.in-Some.is in
     plain_step_lem _ _ _ _ _ _ refl found.accepted (share_held_lem c.args.job c.args.place c.args.share found.within) _ _ (cc) c.said-2.ensures
-    (λ ns ws. refl) refl
+    (λ size ws. refl) refl

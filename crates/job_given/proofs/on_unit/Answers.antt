@@ -16,4 +16,4 @@ pub returns : goal.returns
 unfolding step on_unit
 returns c = let held = unit_held_lem c.args.job c.args.number c.args.turnover c.args.random (search rules) (search rules) (search rules) in
     plain_step_lem _ _ _ _ _ _ refl (not_full c.args.job.frame.numbers c.args.job.frame.units (search rules) (omega arith)) held _ _ refl
-    c.said-2.ensures (λ ns ws. refl) refl
+    c.said-2.ensures (λ size ws. refl) refl

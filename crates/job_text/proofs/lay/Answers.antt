@@ -26,9 +26,9 @@ returns-in-Err c =
 pub returns-in-Ok-Panel : goal.returns-in-Ok-Panel
 returns-in-Ok-Panel c =
     let text = λ (said : Judged rules.Saying). text_at said c.args.at in
-    let ns = lent c.args.stepped.numbers _ c.args.stepped.job.panel.size most_panel (search rules) c.units.ensures in
-    let panel : c.in-Ok-Panel.field-0 ≡ Saying.Panel = rw c.in-Ok-Panel.is at c.in-Ok-Panel.field-0-is in
-    let e = ap₂ panel_lines ns c.lent.ensures.weights ∙ says_ok text c.args.stepped _ Saying.Panel c.in-Ok-Panel.is panel in
+    let ns = lent c.in-Ok-Panel.numbers _ c.args.stepped.job.panel.size most_panel (search rules) c.units.ensures in
+    let panel : c.in-Ok-Panel.field-0 ≡ Saying.Panel c.in-Ok-Panel.numbers = rw c.in-Ok-Panel.is at c.in-Ok-Panel.field-0-is in
+    let e = ap₂ panel_lines ns c.lent.ensures.weights ∙ says_ok text c.args.stepped _ _ c.in-Ok-Panel.is panel in
     laid_all _ _ _ _ _ _ e (simp length-take (omega arith)) c.panel_lines.ensures
 
 pub returns-in-Ok-Figure-Quarter-default : goal.returns-in-Ok-Figure-Quarter-default
