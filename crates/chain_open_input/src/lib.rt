@@ -22,13 +22,9 @@ pub struct Lists<'a> {
 fn bad_lists(lists: &Lists) -> bool
     ensures { result ≡ over bad_open_lists lists.now }
 {
-    let w = lists.weights;
-    let g = lists.shares;
-    let a = lists.relatives;
-    if bad_units(w.len()) {
-        return true;
-    }
-    g.len() != w.len() || a.len() != w.len()
+    bad_units(lists.weights.len())
+        || lists.shares.len() != lists.weights.len()
+        || lists.relatives.len() != lists.weights.len()
 }
 
 // 10: a W of 0, or a sum that passes the limit.

@@ -100,9 +100,6 @@ impl Record<'_> {
         if held.iter().any(|v| bad_weight(*v, *v)) {
             return true;
         }
-        match chain_sums::limited_sum(held) {
-            Some(sum) => sum == 0,
-            None => true,
-        }
+        chain_sums::limited_sum(held).is_none_or(|sum| sum == 0)
     }
 }

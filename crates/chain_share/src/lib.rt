@@ -19,7 +19,7 @@ fn inner(size: u64, x: u64, domain: u32) -> u64
     ensures { result ≡ size * x * domain / share_scale }
 {
     let base = size * x;
-    base * (domain as u64) / SHARE_SCALE
+    base * u64::from(domain) / SHARE_SCALE
 }
 
 // The u of one unit.
@@ -56,23 +56,15 @@ impl Outside<'_> {
         requires { Marked self.now.marks.now w.now g.now }
         ensures { result ≡ bad_outside self.now.domain self.now.marks.now w.now g.now }
     {
-        let marks = self.marks;
-        let domain = self.domain;
-        let sampled = chain_sampled::count(marks, g);
+        let sampled = chain_sampled::count(self.marks, g);
         if sampled.size == 0 {
             return false;
         }
-        if domain == 0 {
-            return true;
-        }
-        if SHARE_SCALE < domain as u64 {
-            return true;
-        }
-        if sampled.shares == 0 {
-            return true;
-        }
-        let x = chain_sampled::first(marks, w);
-        chain_sampled::any_other(marks, w, x)
+        let x = chain_sampled::first(self.marks, w);
+        self.domain == 0
+            || SHARE_SCALE < u64::from(self.domain)
+            || sampled.shares == 0
+            || chain_sampled::any_other(self.marks, w, x)
     }
 
     // 9 to 13, and then 29.

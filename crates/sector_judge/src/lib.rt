@@ -42,23 +42,10 @@ fn exceed(minima: &[u64], interviews: u64) -> bool
 pub fn bad_sharing(sharing: &Sharing) -> bool
     ensures { result ≡ bad_sharing (sharing_of sharing.now) }
 {
-    let strengths = sharing.strengths;
-    let minima = sharing.minima;
-    let interviews = sharing.interviews;
-    if minima.len() != strengths.len() {
-        return true;
-    }
-    if strengths.is_empty() {
-        return true;
-    }
-    if MOST_SECTORS < strengths.len() {
-        return true;
-    }
-    if bad_strengths(strengths) {
-        return true;
-    }
-    if MOST_INTERVIEWS < interviews {
-        return true;
-    }
-    exceed(minima, interviews)
+    sharing.minima.len() != sharing.strengths.len()
+        || sharing.strengths.is_empty()
+        || MOST_SECTORS < sharing.strengths.len()
+        || bad_strengths(sharing.strengths)
+        || MOST_INTERVIEWS < sharing.interviews
+        || exceed(sharing.minima, sharing.interviews)
 }

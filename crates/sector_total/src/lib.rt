@@ -30,19 +30,11 @@ fn out_of_range(indices: &[u64]) -> bool
 fn bad_sectors(shares: &[u32], indices: &[u64]) -> bool
     ensures { result ≡ bad_sectors shares.now indices.now }
 {
-    if indices.len() != shares.len() {
-        return true;
-    }
-    if shares.is_empty() {
-        return true;
-    }
-    if MOST_SECTORS < shares.len() {
-        return true;
-    }
-    if added(shares) != SECTOR_SCALE {
-        return true;
-    }
-    out_of_range(indices)
+    indices.len() != shares.len()
+        || shares.is_empty()
+        || MOST_SECTORS < shares.len()
+        || added(shares) != SECTOR_SCALE
+        || out_of_range(indices)
 }
 
 // The sum of share × index.

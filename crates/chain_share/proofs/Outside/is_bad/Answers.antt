@@ -1,5 +1,6 @@
 -- `is_bad` gives 29's test: nothing is asked where no unit is sampled, else each of its parts in turn.
 use native.Mathlib.Omega.{arith}
+use Rattle.std.proofs.Common.{rules}
 use mathlib.Core.Path.{◌≡◌, refl, sym, ap, ◌∙◌}
 use mathlib.Core.Bool.{Bool, not}
 use mathlib.Core.List.{List}
@@ -42,35 +43,20 @@ pub returns-then-sampled-eq0 : goal.returns-then-sampled-eq0
 unfolding bad_outside
 returns-then-sampled-eq0 c = rw (sym (size_at c.args.self.now.domain c.args.self.now.marks.now c.args.w.now c.args.g.now c.requires _ c.count-sampled.ensures) ∙ c.if-sampled-eq0.true)
 
-pub returns-then-domain-eq0 : goal.returns-then-domain-eq0
-unfolding ◌or◌
-returns-then-domain-eq0 c = rw (tested c.args.self.now.domain c.args.self.now.marks.now c.args.w.now c.args.g.now c.requires _ c.count-sampled.ensures c.if-sampled-eq0.false, eq-eqb _ 0 c.if-domain-eq0.true)
-
-pub returns-then-domain-gt-SHARE_SCALE : goal.returns-then-domain-gt-SHARE_SCALE
-unfolding ◌or◌
-returns-then-domain-gt-SHARE_SCALE c = rw (tested c.args.self.now.domain c.args.self.now.marks.now c.args.w.now c.args.g.now c.requires _ c.count-sampled.ensures c.if-sampled-eq0.false, ne_eqb _ 0 c.if-domain-eq0.false, lt-ltb share_scale c.args.self.now.domain c.if-domain-gt-SHARE_SCALE.true)
-
-pub returns-then-sampled-eq0-2 : goal.returns-then-sampled-eq0-2
-unfolding ◌or◌
-returns-then-sampled-eq0-2 c = rw (
-  tested c.args.self.now.domain c.args.self.now.marks.now c.args.w.now c.args.g.now c.requires _ c.count-sampled.ensures c.if-sampled-eq0.false,
-  ne_eqb _ 0 c.if-domain-eq0.false,
-  le-ltb _ _ c.if-domain-gt-SHARE_SCALE.false,
-  eq-eqb _ 0 (sym (shares_at c.args.self.now.domain c.args.self.now.marks.now c.args.w.now c.args.g.now c.requires _ c.count-sampled.ensures) ∙ c.if-sampled-eq0-2.true),
-)
-
 pub first-x-requires : goal.first-x-requires
 first-x-requires c = c.requires.marks
 
 pub any_other-requires : goal.any_other-requires
 any_other-requires c = c.requires.marks
 
-pub returns : goal.returns
+pub returns-then-sampled-eq0-2 : goal.returns-then-sampled-eq0-2
 unfolding ◌or◌
-returns c = rw (
-  tested c.args.self.now.domain c.args.self.now.marks.now c.args.w.now c.args.g.now c.requires _ c.count-sampled.ensures c.if-sampled-eq0.false,
-  ne_eqb _ 0 c.if-domain-eq0.false,
-  le-ltb _ _ c.if-domain-gt-SHARE_SCALE.false,
-  ne_eqb _ 0 (λ e. c.if-sampled-eq0-2.false (shares_at c.args.self.now.domain c.args.self.now.marks.now c.args.w.now c.args.g.now c.requires _ c.count-sampled.ensures ∙ e)),
-)
-    (c.any_other.ensures ∙ ap (λ (x : ℕ). any_of (λ w. not (eqb w x)) (of_sampled c.args.self.now.marks.now c.args.w.now)) c.first-x.ensures)
+returns-then-sampled-eq0-2 c =
+    rw (tested c.args.self.now.domain c.args.self.now.marks.now c.args.w.now c.args.g.now c.requires _ c.count-sampled.ensures c.if-sampled-eq0.false, sym (shares_at c.args.self.now.domain c.args.self.now.marks.now c.args.w.now c.args.g.now c.requires _ c.count-sampled.ensures))
+    (search rules)
+
+pub returns-else-sampled-eq0-2 : goal.returns-else-sampled-eq0-2
+unfolding ◌or◌
+returns-else-sampled-eq0-2 c =
+    rw (tested c.args.self.now.domain c.args.self.now.marks.now c.args.w.now c.args.g.now c.requires _ c.count-sampled.ensures c.if-sampled-eq0.false, sym (shares_at c.args.self.now.domain c.args.self.now.marks.now c.args.w.now c.args.g.now c.requires _ c.count-sampled.ensures), sym c.first-x.ensures)
+    (search rules)
