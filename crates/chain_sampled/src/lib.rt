@@ -34,6 +34,7 @@ pub fn first(marks: &[u8], w: &[u64]) -> u64
     requires { length marks.now ≡ length w.now }
     ensures { result ≡ sampled_base marks.now w.now }
 {
+    // By a place: with `find` over the pairs and `map_or` (tried) the proof did not close.
     match marks.iter().position(|mark| *mark != 0) {
         Some(i) => w[i],
         None => 0,

@@ -31,7 +31,7 @@ fn place_in(panel: &HeldPanel, place: u8) -> Option<usize>
     ensures { result ≡ cond (ltb place (min panel.now.size most_panel)) (Some place) None }
 {
     let at = usize::from(place);
-    if at < panel.units() { Some(at) } else { None }
+    (at < panel.units()).then_some(at)
 }
 
 // 3: a share of a unit of the panel.

@@ -21,13 +21,14 @@ pub struct Sharing<'a> {
 fn bad_strengths(strengths: &[u64]) -> bool
     ensures { result ≡ list_any (λ x. ltb x lowest_strength || ltb highest_strength x) strengths.now }
 {
-    strengths.iter().any(|strength| *strength < LOWEST_STRENGTH || HIGHEST_STRENGTH < *strength)
+    strengths.iter().any(|strength| !(LOWEST_STRENGTH..=HIGHEST_STRENGTH).contains(strength))
 }
 
 // Whether the minima together exceed T: what T has left stops before a sum could wrap.
 fn exceed(minima: &[u64], interviews: u64) -> bool
     ensures { result ≡ ltb interviews (sum minima.now) }
 {
+    // A loop: with `try_fold` (tried) the proof did not close.
     let mut left = interviews;
     for minimum in minima {
         let Some(rest) = left.checked_sub(*minimum) else {

@@ -45,7 +45,7 @@ fn put_last_digits(out: &mut [u8], at: usize, n: u64, k: usize) -> usize
         return at;
     }
     let last = put_last_digits(out, at, n / 10, k - 1);
-    out[last] = 48 + (n % 10) as u8;
+    out[last] = b'0' + (n % 10) as u8;
     last + 1
 }
 

@@ -13,11 +13,11 @@ fn put_digits(out: &mut [u8], at: usize, n: u64) -> usize
     ensures { Put at (digits_of n) out.old out.new result }
 {
     if n < 10 {
-        out[at] = 48 + n as u8;
+        out[at] = b'0' + n as u8;
         return at + 1;
     }
     let last = put_digits(out, at, n / 10);
-    out[last] = 48 + (n % 10) as u8;
+    out[last] = b'0' + (n % 10) as u8;
     last + 1
 }
 

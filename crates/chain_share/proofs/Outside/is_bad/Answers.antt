@@ -1,12 +1,11 @@
 -- `is_bad` gives 29's test: nothing is asked where no unit is sampled, else each of its parts in turn.
 use native.Mathlib.Omega.{arith}
 use Rattle.std.proofs.Common.{rules}
-use mathlib.Core.Path.{◌≡◌, refl, sym, ap, ◌∙◌}
+use mathlib.Core.Path.{◌≡◌, refl, sym, ◌∙◌}
 use mathlib.Core.Bool.{Bool, not}
 use mathlib.Core.List.{List}
 use Prim.Native.Nat.{ℕ, zero, suc}
 use lib.Dec.{ltb, eqb}
-use borrow.Author.Tests.{eq-eqb, ne_eqb, lt-ltb, le-ltb}
 use Rattle.rules.specs.Limits.{share_scale}
 use Rattle.rules.specs.Tests.{◌or◌}
 use Rattle.rules.specs.Lists.{any_of}
