@@ -55,6 +55,7 @@ impl Design<'_> {
         Ok(())
     }
 
+    // (Keyed and Weighed name the lists that each reads: a frame in both would lengthen every clause that speaks of them, and spare four lines here.)
     // Draws the panel of a frame that no refusal stops, with room for the gaps and the marks of N units, and answers the take-all group that it was drawn with.
     fn draw_in<const N: usize>(&self, panel: &mut [u32], weights: &mut [u64]) -> Group
         requires accepted { over kept_draw_refusal self.now panel.old weights.old ≡ 0 }

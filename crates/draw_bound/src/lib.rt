@@ -41,10 +41,7 @@ pub fn is_near(key: Fraction, reach: u64) -> bool
 fn is_below(x: Fraction, y: Fraction) -> bool
     ensures { result ≡ fraction_below x.num x.den y.num y.den }
 {
-    if x == y {
-        return false;
-    }
-    draw_fraction::below(x, y)
+    x != y && draw_fraction::below(x, y)
 }
 
 // A unit of this part is within the bound.
@@ -72,18 +69,13 @@ pub fn is_checked(keyed: &Keyed, units: &[usize], parts: &[u64], b: Bound, z: us
     requires { Placed (size_of keyed.now) units.now × (length units.now ≤ length parts.now) }
     ensures { result ≡ true → over Checked keyed.now units.now parts.now b z }
 {
-    if b.part == 0 {
-        return false;
-    }
-    if keyed.turnovers.len() <= b.last {
+    if b.part == 0 || keyed.turnovers.len() <= b.last {
         return false;
     }
     let mut many: usize = 0;
     'listed: for (i, part) in units.iter().zip(parts) {
-        if *part == b.part {
-            if !is_apart(keyed, b, *i) {
-                return false;
-            }
+        if *part == b.part && !is_apart(keyed, b, *i) {
+            return false;
         }
         if is_passed(b, *part, *i) {
             many += 1;

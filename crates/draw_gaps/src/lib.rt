@@ -9,6 +9,7 @@ ghost use Rattle.rules.specs.Lists.{sum};
 ghost use Rattle.draw_gaps.specs.Gaps.{Gaps};
 
 use draw_key::Method;
+use group::TAKE_ALL;
 
 // Writes the gap of each unit.
 pub fn fill(turnovers: &[u64], marks: &[u8], method: Method, n: usize, rest: u64, gaps: &mut [u64])
@@ -18,7 +19,7 @@ pub fn fill(turnovers: &[u64], marks: &[u8], method: Method, n: usize, rest: u64
 {
     let off = draw_key::taken_off(method, n as u64);
     'units: for (i, turnover) in turnovers.iter().enumerate() {
-        if marks[i] == 1 {
+        if marks[i] == TAKE_ALL {
             gaps[i] = 0;
         } else {
             gaps[i] = draw_key::gap(*turnover, rest, off);

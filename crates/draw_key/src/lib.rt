@@ -102,8 +102,16 @@ pub struct Keyed<'a> {
 }
 
 impl<'a> Keyed<'a> {
-    ghost use Rattle.draw_key.specs.Units.{UnitKey};
+    ghost use Rattle.draw_key.specs.Units.{UnitKey, has_key};
     ghost use Rattle.draw_key.specs.Keyed.{over};
+
+    // Unit i has a key: its gap is not 0. A take-all unit has none.
+    pub fn has_key(&self, i: usize) -> bool
+        requires { i < length self.now.turnovers.now }
+        ensures { result ≡ has_key self.now.gaps.now i }
+    {
+        self.gaps[i] != 0
+    }
 
     // The key of unit i.
     pub fn key(&self, i: usize) -> Fraction

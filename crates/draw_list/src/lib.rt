@@ -41,7 +41,7 @@ pub fn collect(keyed: &Keyed) -> Option<Shortlist>
     Some(Shortlist { units, count })
 }
 
-// The largest numerator of the listed units' keys, and at least 1.
+// The largest numerator of the listed units' keys, and at least 1. (`map` and `max` were tried: that the closure may be called at each unit was not shown.)
 fn most_numerator(keyed: &Keyed, units: &[usize]) -> u64
     requires { Placed (size_of keyed.now) units.now }
     ensures { (0 < result) × Under keyed.now.randoms.now keyed.now.gaps.now keyed.now.setting units.now result }
@@ -83,10 +83,7 @@ fn is_worth(keyed: &Keyed) -> bool {
 pub fn find(keyed: &Keyed, z: usize) -> Option<Found>
     ensures { IfSome result (over IsFound keyed.now z) }
 {
-    if keyed.setting.n == 0 {
-        return None;
-    }
-    if !is_worth(keyed) {
+    if keyed.setting.n == 0 || !is_worth(keyed) {
         return None;
     }
     let list = collect(keyed)?;

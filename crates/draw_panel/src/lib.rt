@@ -11,11 +11,12 @@ ghost use Rattle.draw_panel.specs.Panel.{Weighable, Markable, weight_by, marked_
 
 use draw_key::{Keyed, Setting};
 use draw_list::found::Found;
+use group::TAKE_ALL;
 use limits::MOST_PANEL;
 
 pub mod told;
 
-// The mark of a sampled unit; a take-all unit has 1.
+// The mark of a sampled unit, beside that of a take-all unit (`group::TAKE_ALL`).
 const SAMPLED: u8 = 2;
 
 // The units of a frame with their marks, under a setting: ready for a W that fits 64 bits.
@@ -39,13 +40,13 @@ impl<'a> Weighed<'a> {
         if self.setting.n == 0 {
             return self.turnovers[i];
         }
-        if self.marks[i] == 1 {
+        if self.marks[i] == TAKE_ALL {
             return (self.setting.n as u64) * self.turnovers[i];
         }
         self.setting.rest
     }
 
-    // Writes unit i and its W at place k.
+    // Writes unit i and its W at place k. (Two lists, as C lends them, and no struct of both: the definitions give the numbers and the weights each for itself.)
     fn write(&self, i: usize, k: usize, panel: &mut [u32], weights: &mut [u64])
         requires unit { i < length self.now.turnovers.now }
         requires place { (k < length panel.old) × (k < length weights.old) }

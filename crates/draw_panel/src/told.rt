@@ -39,12 +39,7 @@ impl Told {
     {
         match self {
             Told::UpTo(last) => draw_order::is_sampled(keyed, *last, i),
-            Told::Within(bound) => {
-                if keyed.gaps[i] == 0 {
-                    return false;
-                }
-                draw_bound::is_within(keyed, *bound, i)
-            }
+            Told::Within(bound) => keyed.has_key(i) && draw_bound::is_within(keyed, *bound, i),
         }
     }
 }

@@ -67,10 +67,8 @@ impl Key {
     pub fn below(self, b: Key) -> bool
         ensures { result ≡ fraction_below self.terms.num self.terms.den b.terms.num b.terms.den }
     {
-        if self.terms == b.terms {
-            return false;
-        }
-        draw_fraction::below_by_parts(self.terms, self.whole, b.terms, b.whole)
+        self.terms != b.terms
+            && draw_fraction::below_by_parts(self.terms, self.whole, b.terms, b.whole)
     }
 
     // This key is below the key of these terms: their whole part is held against this one's by a product, and divided only where it might wrap.

@@ -8,6 +8,8 @@ ghost use Rattle.rules.specs.TakeAll.{take_all_group};
 ghost use Rattle.group_least.specs.Size.{Sized, has_least};
 ghost use Rattle.group.specs.Group.{marks_of, IsGroup};
 
+use group_least::Size;
+
 // The take-all group as a value: q units; n more are sampled, and rest is X. Who the q are stands in the marks.
 #[derive(Clone, Copy)]
 pub struct Group {
@@ -16,7 +18,11 @@ pub struct Group {
     pub rest: u64,
 }
 
-// A mark for each unit, a byte as the C interface lends it: 1 where it has at least this turnover, 0 where it has less.
+// The mark of a unit of the group; one outside has 0. Bytes, and no enum: the list is the one that C lends to `vougecress_take_all`, and draws and rotations
+// call the same functions.
+pub const TAKE_ALL: u8 = 1;
+
+// A mark for each unit: that of the group where it has at least this turnover, 0 where it has less.
 fn mark(turnovers: &[u64], least: u64, marks: &mut [u8])
     requires { length turnovers.now ≤ length marks.old }
     ensures { marks.new ≡ written 0 (marks_of (has_least turnovers.now least) (length turnovers.now)) marks.old }
@@ -33,15 +39,11 @@ pub fn find_group(turnovers: &[u64], z: usize, marks: &mut [u8]) -> Group
     ensures group { IsGroup turnovers.now z marks.new result }
     ensures marks_after { marks.new ≡ written 0 (marks_of (take_all_group turnovers.now z).takes_all (length turnovers.now)) marks.old }
 {
-    let size = group_least::find_size(turnovers, z);
-    if size.q == 0 {
+    let Size { q, n, rest, least } = group_least::find_size(turnovers, z);
+    if q == 0 {
         marks[..turnovers.len()].fill(0);
     } else {
-        mark(turnovers, size.least, marks);
+        mark(turnovers, least, marks);
     }
-    Group {
-        q: size.q,
-        n: size.n,
-        rest: size.rest,
-    }
+    Group { q, n, rest }
 }

@@ -11,6 +11,7 @@ ghost use Rattle.group_border.specs.Searched.{eligible_in, GatheredFrom, Candida
 mod border;
 
 pub use border::Border;
+use group::TAKE_ALL;
 use limits::{MOST_PANEL, THRESHOLD_SCALE};
 
 // Units of two previous lists.
@@ -33,7 +34,7 @@ impl Border<'_> {
         requires { i < length self.now.turnovers.now }
         ensures { result ≡ eligible_in self.now i }
     {
-        self.marks[i] != 1 && self.is_near(i)
+        self.marks[i] != TAKE_ALL && self.is_near(i)
     }
 
     // Lists the candidates that stand in `list` and not in `skip` behind the first `count` places, and gives the number of all.

@@ -40,8 +40,7 @@ fn bad_list(list: &[u32]) -> bool
 pub fn bad_keeping(keeping: &Keeping) -> bool
     ensures { result ≡ bad_keeping (keeping_of keeping.now) }
 {
-    keeping.threshold == 0
-        || THRESHOLD_SCALE < keeping.threshold
+    !(1..=THRESHOLD_SCALE).contains(&keeping.threshold)
         || bad_list(keeping.first)
         || bad_list(keeping.second)
 }

@@ -6,7 +6,7 @@ ghost use Rattle.std.specs.Prelude.{◌≡◌, ◌-◌, ◌≤◌, length};
 ghost use Rattle.group_kept.specs.Kept.{Enlargeable, IsEnlarged, turnover_of, Outside};
 ghost use Rattle.group_kept.specs.TakeAll.{over};
 
-use group::Group;
+use group::{Group, TAKE_ALL};
 use group_border::{Border, TWO_LISTS};
 use group_keeping::Keeping;
 
@@ -19,7 +19,7 @@ pub struct TakeAll<'a> {
     pub keeping: Keeping<'a>,
 }
 
-// The rest turnover without listed units.
+// The rest turnover without listed units. (`map` and `sum` were tried: that the closure may be called at each unit was not shown.)
 fn less(turnovers: &[u64], units: &[usize], rest: u64) -> u64
     requires { Outside turnovers.now units.now rest }
     ensures { result ≡ rest - turnover_of turnovers.now units.now }
@@ -50,7 +50,7 @@ impl TakeAll<'_> {
         let many = border.candidates(&mut places);
         // "At most n are kept"
         let kept = g.n.min(many);
-        selection::mark(&places[..kept], 1, marks);
+        selection::mark(&places[..kept], TAKE_ALL, marks);
         let q = g.q + kept;
         if g.n <= kept {
             return Group { q, n: 0, rest: 0 };

@@ -11,7 +11,7 @@ ghost use Rattle.group.specs.Group.{marked};
 ghost use Rattle.group_kept.specs.TakeAll.{over};
 ghost use Rattle.group_entry.specs.Answer.{answer_from};
 
-use group::Group;
+use group::{Group, TAKE_ALL};
 use group_kept::TakeAll;
 use limits::MOST_FRAME;
 use refusals::Refusal;
@@ -48,7 +48,7 @@ fn write_marked(numbers: &[u32], marks: &[u8], units: &mut [u32])
 {
     let mut many: usize = 0;
     for (i, &number) in numbers.iter().enumerate() {
-        if marks[i] == 1 {
+        if marks[i] == TAKE_ALL {
             units[many] = number;
             many += 1;
         }

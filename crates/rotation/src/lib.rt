@@ -90,15 +90,8 @@ fn turn(asked: &Rotation, leavers: &mut [u32]) -> Result<Rotated, Refusal>
         members: &places[..many],
         z: asked.z,
     };
-    match leave(
-        frame.numbers,
-        &search,
-        required(asked.fraction, many),
-        leavers,
-    ) {
-        Some(rotated) => Ok(rotated),
-        None => Err(Refusal::NoStep),
-    }
+    let need = required(asked.fraction, many);
+    leave(frame.numbers, &search, need, leavers).ok_or(Refusal::NoStep)
 }
 
 // Rotation by the keys of a method, with the group that a threshold and the take-all lists of up to two previous draws enlarge. Answers the smallest step,

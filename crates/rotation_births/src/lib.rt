@@ -9,6 +9,7 @@ ghost use Rattle.rules.specs.Rotation.{within_previous, bad_previous, bad_births
 
 use draw_key::Permanent;
 use limits::{MOST_FRAME, MOST_PANEL, MOST_TURNOVER, RANDOM_RANGE};
+use rotation_seek::Seek;
 
 // What the previous draw left to a rotation: its start, its sampled count n' and its rest turnover X'.
 #[derive(Clone, Copy)]
@@ -55,10 +56,9 @@ fn outside(numbers: &[u32], births: &[u32]) -> bool
     requires { (rising numbers.now ≡ true) × (rising births.now ≡ true) }
     ensures { result ≡ any_of (λ unit. not (elem unit numbers.now)) births.now }
 {
-    let mut j: usize = 0;
+    let mut frame = Seek::new(numbers);
     for unit in births {
-        j = rotation_seek::seek(numbers, j, *unit);
-        if !rotation_seek::stands_at(numbers, j, *unit) {
+        if !frame.meets(*unit) {
             return true;
         }
     }

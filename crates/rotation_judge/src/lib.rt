@@ -39,10 +39,10 @@ fn bad_old_panel(panel: &[u32], fraction: u32) -> bool
 fn short_leavers(panel: &[u32], births: &[u32], leavers: &[u32]) -> bool
     ensures { result ≡ short_leavers panel.now births.now leavers.now }
 {
-    match leavers.len().checked_sub(panel.len()) {
-        Some(left) => left < births.len(),
-        None => true,
-    }
+    leavers
+        .len()
+        .checked_sub(panel.len())
+        .is_none_or(|left| left < births.len())
 }
 
 impl Rotation<'_> {

@@ -13,7 +13,8 @@ use draw_panel::told;
 use limits::{MOST_FRAME, MOST_PANEL};
 use rotation_step::Search;
 
-// Lists the places of the members that are not sampled in the front of `places`, and gives their number. (No heap: the caller lends the room.)
+// Lists the places of the members that are not sampled in the front of `places`, and gives their number. (No heap: the caller
+// lends the room. Listed and counted one by one: as in `rotation_step`, that a filter's closure may be called at each member was not shown.)
 fn list(search: &Search, places: &mut [usize]) -> usize
     requires { length search.now.members.now ≤ length places.old }
     ensures { of Listed search.now places.old places.new result }

@@ -12,7 +12,9 @@ ghost use Rattle.rotation_members.specs.Members.{Judgeable, member_of};
 ghost use Rattle.rotation_members.specs.Filled.{Filled};
 
 use frame::Frame;
+use group::TAKE_ALL;
 use rotation_births::{Candidates, Previous};
+use rotation_seek::Seek;
 
 // Unit i is a member, where it is told whether it is of the old panel and whether it is a birth. A unit of both is one because it is of the old panel.
 fn is_member(
@@ -26,7 +28,7 @@ fn is_member(
     requires { Judgeable frame.now.turnovers.now frame.now.randoms.now marks.now previous × (i < length frame.now.turnovers.now) }
     ensures { result ≡ member_of frame.now.turnovers.now frame.now.randoms.now marks.now previous i old birth }
 {
-    marks[i] != 1 && (old || (birth && previous.joins(frame.randoms[i], frame.turnovers[i])))
+    marks[i] != TAKE_ALL && (old || (birth && previous.joins(frame.randoms[i], frame.turnovers[i])))
 }
 
 // Lists the members' places, rising, in the front of `places`, and gives their number. Frame, old panel and births rise, so one pass goes through the three
@@ -41,19 +43,15 @@ pub fn members(frame: &Frame, marks: &[u8], candidates: &Candidates, places: &mu
     ensures upper_bound { result ≤ length candidates.now.panel.now + length candidates.now.births.now }
 {
     let mut count: usize = 0;
-    let mut j: usize = 0;
-    let mut b: usize = 0;
+    let mut panel = Seek::new(candidates.panel);
+    let mut births = Seek::new(candidates.births);
     for (i, number) in frame.numbers.iter().enumerate() {
-        j = rotation_seek::seek(candidates.panel, j, *number);
-        b = rotation_seek::seek(candidates.births, b, *number);
-        let old = rotation_seek::stands_at(candidates.panel, j, *number);
-        let birth = rotation_seek::stands_at(candidates.births, b, *number);
+        let old = panel.meets(*number);
+        let birth = births.meets(*number);
         if is_member(frame, marks, candidates.previous, i, old, birth) {
             places[count] = i;
             count += 1;
         }
-        j = rotation_seek::behind(candidates.panel, j, *number);
-        b = rotation_seek::behind(candidates.births, b, *number);
     }
     count
 }

@@ -1,6 +1,6 @@
 -- The pass through two rising lists side by side: a number is in the second list if it stands where the search for it stops, and the next number of the
 -- first goes on from there.
-use mathlib.Core.Path.{◌≡◌, refl, sym, ap, ◌∙◌}
+use mathlib.Core.Path.{◌≡◌, refl, sym, ap, subst, ◌∙◌}
 use mathlib.Core.Bool.{Bool, true, false}
 use mathlib.Core.List.{List}
 use Prim.Native.Nat.{ℕ, zero, suc, ◌+◌, ◌-◌, ◌≤◌, ◌<◌, zero-le}
@@ -11,15 +11,18 @@ use lib.Seq.{get_or-drop, take-length}
 use lib.Dec.{ltb, leb, eqb}
 use borrow.Author.Count.{below_more}
 use borrow.Author.Tests.{leb-true, leb-false, lt-ltb, le-ltb, eqb-true, eqb-false, ltb-true}
-use Rattle.std.specs.Prelude.{Some, None}
+use Rattle.std.specs.Prelude.{Option, Some, None, MatchOption}
 use Rattle.std.specs.List.{position, position_or_len}
 use Rattle.std.proofs.lemmas.List.Quantifiers.{position-Some}
 use Rattle.std.proofs.lemmas.List.Sums.{fails_before_first}
-use Rattle.std.proofs.lemmas.Option.{none-some}
+use Rattle.std.proofs.lemmas.Option.{none-some, MatchOption-at_some, MatchOption-at_none}
 use Rattle.rules.specs.Lists.{rising, elem}
 use Rattle.rules.proofs.Tests.{by_test, by_order, and_on, and_off, and_left, and_right}
 use Rattle.rules.proofs.Lists.{rising_below, elem_here, elem_next, elem_end, elem_low}
+use denote.Bor.{Bor}
+use Rattle.rotation_seek.specs.declared.Seek.{Seek}
 use Rattle.rotation_seek.specs.Passed.{Passed, Reached, stands, behind}
+use Rattle.rotation_seek.specs.Met.{Met}
 
 -- nothing is passed yet
 pub passed_none : (list : List ℕ) (x : ℕ) → Passed list 0 x
@@ -55,7 +58,7 @@ module _ (list : List ℕ) (j x : ℕ) (p : Passed list j x) where
   rest_is : rest ≡ drop j list
   rest_is = rw (← length-drop j list) (take-length (drop j list))
 
-  pub reached_at : (k : ℕ) → position reaches rest ≡ Some k → Reached list j x (j + k)
+  reached_at : (k : ℕ) → position reaches rest ≡ Some k → Reached list j x (j + k)
   reached_at k e =
       let found = position-Some reaches (drop j list) k 0 (ap (position reaches) (sym rest_is) ∙ e) in
       let within = p.within in
@@ -72,7 +75,7 @@ module _ (list : List ℕ) (j x : ℕ) (p : Passed list j x) where
   past_all : position reaches rest ≡ None → length rest ≤ position_or_len reaches rest
   past_all e = by_order (position_or_len reaches rest) (length rest) (λ l. absurd (none-some _ (sym e ∙ somewhere l))) (λ h. h)
 
-  pub reached_end : position reaches rest ≡ None → Reached list j x (length list)
+  reached_end : position reaches rest ≡ None → Reached list j x (length list)
   reached_end e =
       let within = p.within in
       let all : j + (length list - j) ≡ length list = omega arith in
@@ -82,6 +85,13 @@ module _ (list : List ℕ) (j x : ℕ) (p : Passed list j x) where
         passed = rw (← all) (passed_by (length list - j) (omega arith) (λ i l. fails_before_first reaches (drop j list) i 0 (omega (arith, l, none, length-drop j list))));
         stops = λ l. absurd (omega (arith, l));
       }
+
+  -- so whichever the search answers
+  pub reached_by :
+      (found : Option ℕ) (r : ℕ) (At : ℕ → Type 0) → found ≡ position reaches rest → MatchOption found (r ≡ length list) At → ((k : ℕ) → At k → r ≡ j + k)
+      → Reached list j x r
+  reached_by None r At e m at = rw (MatchOption-at_none (r ≡ length list) At refl m) (reached_end (sym e))
+  reached_by (Some k) r At e m at = rw (at k (MatchOption-at_some (r ≡ length list) At k refl m)) (reached_at k (sym e))
 
 -- a number that has passed j places is looked for behind them alone
 passed_elem : (list : List ℕ) (j x : ℕ) → Passed list j x → elem x (drop j list) ≡ elem x list
@@ -138,7 +148,7 @@ module _ {numbers list : List ℕ} {i j r : ℕ} (at : Standing numbers list i j
   next_above m = rising_below numbers up i (i + 1) (omega arith) m
 
   -- the search for the next number may go on where this one stopped
-  pub stand_on : Standing numbers list (i + 1) r
+  stand_on : Standing numbers list (i + 1) r
   stand_on = record { in_frame = omega arith; in_list = h.passed.within; passed = λ m. passed_on h.passed _ (next_above m) }
 
   -- or behind it
@@ -167,3 +177,17 @@ module _ (list : List ℕ) (r x : ℕ) where
 
   pub behind_on : r ≤ behind list r x
   behind_on = by_test (stands list r x) (λ e. omega (arith, behind_one e)) (λ e. omega (arith, behind_none e))
+
+-- what a search leaves, said of a list that is the sought one
+module _ {s t : Seek} {x : ℕ} {answer : Bool} {list : List ℕ} (same : s.list.now ≡ list) (m : Met s t x answer) where
+  pub met_reached : Reached list s.at x m.place
+  met_reached = subst (λ (xs : List ℕ). Reached xs s.at x m.place) same m.reached
+
+  pub met_told : answer ≡ stands list m.place x
+  met_told = m.told ∙ ap (λ (xs : List ℕ). stands xs m.place x) same
+
+  pub met_onward : t.at ≡ behind list m.place x
+  met_onward = m.onward ∙ ap (λ (xs : List ℕ). behind xs m.place x) same
+
+  pub met_same : t.list.now ≡ list
+  met_same = ap (λ (l : Bor (List ℕ)). l.now) m.same ∙ same

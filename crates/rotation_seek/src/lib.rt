@@ -3,7 +3,15 @@
 #![tactic(auto)]
 
 ghost use Rattle.std.specs.Prelude.{◌≡◌, leb, position};
-ghost use Rattle.rotation_seek.specs.Passed.{Passed, Reached, stands, behind};
+ghost use Rattle.rotation_seek.specs.Passed.{Passed, Reached};
+ghost use Rattle.rotation_seek.specs.Met.{Met};
+
+// A rising list, and the place from which the next number is sought.
+#[derive(Drop)]
+pub struct Seek<'a> {
+    pub list: &'a [u32],
+    pub at: usize,
+}
 
 // The first place whose number is not below `number`.
 fn first(list: &[u32], number: u32) -> Option<usize>
@@ -13,29 +21,29 @@ fn first(list: &[u32], number: u32) -> Option<usize>
 }
 
 // The first place from `from` on whose number is not below `number`.
-pub fn seek(list: &[u32], from: usize, number: u32) -> usize
+fn first_from(list: &[u32], from: usize, number: u32) -> usize
     requires { Passed list.now from number }
     ensures { Reached list.now from number result }
 {
-    match first(&list[from..], number) {
-        Some(k) => from + k,
-        None => list.len(),
-    }
+    first(&list[from..], number).map_or(list.len(), |k| from + k)
 }
 
-// The number stands at place j.
-pub fn stands_at(list: &[u32], j: usize, number: u32) -> bool
-    ensures { result ≡ stands list.now j number }
-{
-    list.get(j) == Some(&number)
-}
-
-// The place behind the number where it stands at place j, else j: from there the next number is sought.
-pub fn behind(list: &[u32], j: usize, number: u32) -> usize
-    ensures { result ≡ behind list.now j number }
-{
-    if stands_at(list, j, number) {
-        return j + 1;
+impl<'a> Seek<'a> {
+    // A list of which nothing is passed yet.
+    pub fn new(list: &'a [u32]) -> Seek<'a>
+        ensures { (result.list.now ≡ list.now) × (result.at ≡ 0) }
+    {
+        Seek { list, at: 0 }
     }
-    j
+
+    // The number stands in the list. The next one is sought behind it, or from where it would stand.
+    pub fn meets(&mut self, number: u32) -> bool
+        requires { Passed self.old.list.now self.old.at number }
+        ensures { Met self.old self.new number result }
+    {
+        let place = first_from(self.list, self.at, number);
+        let stands = self.list.get(place) == Some(&number);
+        self.at = place + usize::from(stands);
+        stands
+    }
 }

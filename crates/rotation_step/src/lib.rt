@@ -36,7 +36,7 @@ pub fn setting_at(s: Setting, k: u32) -> Setting
 impl<'a, 'b> Search<'a, 'b> {
     ghost use Rattle.rotation_step.specs.Moved.{of, Moved};
 
-    // The same under the start that step k leads to.
+    // The same under the start that step k leads to. (Field by field: a struct with a ghost field may not be built from `..self.keyed`.)
     pub fn at(&self, k: u32) -> Search<'a, 'b>
         requires { k ≤ steps }
         ensures { Moved self.now k result }
@@ -68,7 +68,7 @@ impl<'a, 'b> Search<'a, 'b> {
         count
     }
 
-    // The smallest step at which at least `need` members are not sampled.
+    // The smallest step at which at least `need` members are not sampled. (`find` was tried: that it answers the smallest such step was not shown.)
     pub fn first_step(&self, need: usize) -> Option<u32>
         ensures value { step_or_last result ≡ of first_step self.now need }
         ensures below { IfSome result (λ k. k < steps) }

@@ -12,7 +12,7 @@ use Rattle.rules.specs.Selection.{count}
 use Rattle.selection.proofs.Sums.{count_zero, count_yes, count_not}
 use Rattle.draw_key.specs.Keyed.{over}
 use Rattle.draw_bound.specs.Bound.{passes, Apart}
-use Rattle.draw_bound.proofs.is_checked.Goals.{then-part-b+else-not-is_apart, else-part-b}
+use Rattle.draw_bound.proofs.is_checked.Goals.{else-part-b-via-then-part-b+else-not-is_apart, else-part-b-via-else-part-b}
 use Rattle.draw_bound.proofs.is_checked.Goals as goal
 
 pub listed-init : goal.listed-init
@@ -33,9 +33,9 @@ listed-preserved-then-is_passed c =
       omega (arith, inv.0),
       ap (λ (n : ℕ). n + 1) inv.1 ∙ sym (count_yes _ n passed),
       below_more _ n inv.2
-          (elim c.if-part-b.branch [
-            | then-part-b+else-not-is_apart w ↦ λ e. subst (λ (i : ℕ). over Apart c.args.keyed.now c.args.b i) (turn.2 0) (w.is_apart.ensures w.if-not-is_apart.false)
-            | else-part-b w ↦ λ e. absurd (w.if-part-b.false (turn.3 0 ∙ e))
+          (elim c.else-part-b.branch [
+            | else-part-b-via-then-part-b+else-not-is_apart w ↦ λ e. subst (λ (i : ℕ). over Apart c.args.keyed.now c.args.b i) (turn.2 0) (w.is_apart.ensures w.if-not-is_apart.false)
+            | else-part-b-via-else-part-b w ↦ λ e. absurd (w.if-part-b.false (turn.3 0 ∙ e))
           ]),
     )
 
@@ -49,9 +49,9 @@ listed-preserved c =
       omega (arith, inv.0),
       inv.1 ∙ sym (count_not _ n passed),
       below_more _ n inv.2
-          (elim c.if-part-b.branch [
-            | then-part-b+else-not-is_apart w ↦ λ e. subst (λ (i : ℕ). over Apart c.args.keyed.now c.args.b i) (turn.2 0) (w.is_apart.ensures w.if-not-is_apart.false)
-            | else-part-b w ↦ λ e. absurd (w.if-part-b.false (turn.3 0 ∙ e))
+          (elim c.else-part-b.branch [
+            | else-part-b-via-then-part-b+else-not-is_apart w ↦ λ e. subst (λ (i : ℕ). over Apart c.args.keyed.now c.args.b i) (turn.2 0) (w.is_apart.ensures w.if-not-is_apart.false)
+            | else-part-b-via-else-part-b w ↦ λ e. absurd (w.if-part-b.false (turn.3 0 ∙ e))
           ]),
     )
 

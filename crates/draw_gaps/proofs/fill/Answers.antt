@@ -10,7 +10,7 @@ use Rattle.group.specs.Group.{marked}
 use Rattle.draw_key.proofs.Keys.{taken_low}
 use Rattle.draw_gaps.specs.Gaps.{gap_of}
 use Rattle.draw_gaps.proofs.fill.Goals as goal
-use Rattle.draw_gaps.proofs.fill.Goals.{then-marks-i-eq1, else-marks-i-eq1}
+use Rattle.draw_gaps.proofs.fill.Goals.{then-marks-i-eq-TAKE_ALL, else-marks-i-eq-TAKE_ALL}
 
 pub gap-requires : goal.gap-requires
 gap-requires c =
@@ -23,9 +23,9 @@ pub units-preserved : goal.units-preserved
 unfolding gap_of marked
 units-preserved c =
     let room : c.units.i < length c.units.gaps = omega (arith, c.units-test.true, c.units.auto.gaps, c.requires.turnovers_in_bounds.1) in
-    elim c.if-marks-i-eq1.branch [
-      | then-marks-i-eq1 w ↦ rw w.gaps-is (filled_more _ c.units.gaps c.units.i _ room (rw (eq-eqb _ _ w.if-marks-i-eq1.true)) c.units.invariant)
-      | else-marks-i-eq1 w ↦ rw w.gaps-is (filled_more _ c.units.gaps c.units.i _ room (w.gap.ensures ∙ rw (ne_eqb _ _ w.if-marks-i-eq1.false)) c.units.invariant)
+    elim c.if-marks-i-eq-TAKE_ALL.branch [
+      | then-marks-i-eq-TAKE_ALL w ↦ rw w.gaps-is (filled_more _ c.units.gaps c.units.i _ room (rw (eq-eqb _ _ w.if-marks-i-eq-TAKE_ALL.true)) c.units.invariant)
+      | else-marks-i-eq-TAKE_ALL w ↦ rw w.gaps-is (filled_more _ c.units.gaps c.units.i _ room (w.gap.ensures ∙ rw (ne_eqb _ _ w.if-marks-i-eq-TAKE_ALL.false)) c.units.invariant)
     ]
 
 pub returns : goal.returns

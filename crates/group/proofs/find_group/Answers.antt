@@ -55,18 +55,18 @@ module _ (ts : List ℕ) (z : ℕ) (s : Size) (k : IsSize ts z s) where
     };
   }
 
-pub returns-then-size-eq0 : goal.returns-then-size-eq0
-returns-then-size-eq0 c =
+pub returns-then-q-eq0 : goal.returns-then-q-eq0
+returns-then-q-eq0 c =
     let ts = c.args.turnovers.now in
     let takes = (take_all_group ts c.args.z).takes_all in
     let cut : length (take (length ts) c.args.marks.now) ≡ length ts = length-take-le _ _ c.requires.1 in
     let filled : c.fill.new.self ≡ replicate (length ts) 0 = c.fill.ensures.after (λ y h. h) ∙ ap (λ (n : ℕ). replicate n 0) cut in
-    let news : c.fill.new.self ≡ marks_of takes (length ts) = filled ∙ none_are _ _ _ c.find_size-size.ensures c.if-size-eq0.true in
+    let news : c.fill.new.self ≡ marks_of takes (length ts) = filled ∙ none_are _ _ _ c.find_size-q.ensures c.if-q-eq0.true in
     let long : length ts ≡ length (marks_of takes (length ts)) = sym (listed_length every (λ i. cond (takes i) 1 0) (length ts) ∙ count_every (length ts)) in
     let marks : c.fill.new.self ++ drop (length ts) c.args.marks.now ≡ written 0 (marks_of takes (length ts)) c.args.marks.now =
     ap₂ (λ (xs : List ℕ) (n : ℕ). xs ++ drop n c.args.marks.now) news long in
-    record { group = found _ _ _ c.find_size-size.ensures c.args.marks.now _ marks; marks_after = marks }
+    record { group = found _ _ _ c.find_size-q.ensures c.args.marks.now _ marks; marks_after = marks }
 
-pub returns-else-size-eq0 : goal.returns-else-size-eq0
-returns-else-size-eq0 c = let marks = c.mark.ensures ∙ ap (λ (xs : List ℕ). written 0 xs c.args.marks.now) (marks_are _ _ _ c.find_size-size.ensures) in
-    record { group = found _ _ _ c.find_size-size.ensures _ _ marks; marks_after = marks }
+pub returns-else-q-eq0 : goal.returns-else-q-eq0
+returns-else-q-eq0 c = let marks = c.mark.ensures ∙ ap (λ (xs : List ℕ). written 0 xs c.args.marks.now) (marks_are _ _ _ c.find_size-q.ensures) in
+    record { group = found _ _ _ c.find_size-q.ensures _ _ marks; marks_after = marks }

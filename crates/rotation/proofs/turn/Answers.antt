@@ -1,10 +1,22 @@
 -- `turn` meets its contract: what its callees ensure, put together by the laws of `Composition`.
-use mathlib.Core.Path.{refl, sym, ap, ◌∙◌}
-use Prim.Native.Nat.{◌≤◌}
+use mathlib.Core.Path.{◌≡◌, refl, sym, ap, subst, ◌∙◌}
+use mathlib.Core.List.{List}
+use Prim.Native.Nat.{ℕ, ◌≤◌}
 use native.Mathlib.Omega.{arith}
 use lib.ListN.{length}
 use lib.Seq.{length-take-le}
-use Rattle.rules.specs.Limits.{most_frame}
+use Rattle.std.specs.Prelude.{Option, Some, None, Result, Ok, Err}
+use Rattle.std.specs.Option.{ok_or}
+use Rattle.rules.specs.Limits.{most_frame, steps}
+use Rattle.rules.specs.Refusals.{Judged}
+use Rattle.rules.specs.Rotation as rules
+use Rattle.refusals.specs.declared.Refusal.{Refusal}
+use Rattle.rotation_step.specs.declared.Search.{Search}
+use Rattle.rotation_step.specs.Leaving.{first_step}
+use Rattle.rotation_step.specs.Moved.{of}
+use Rattle.rotation.specs.Answer.{answer_from}
+use Rattle.rotation.specs.Left.{Left, LeftAt}
+use Rattle.rotation.specs.declared.Rotated.{Rotated}
 use Rattle.rules.specs.Rotation.{required}
 use Rattle.selection.proofs.Held.{held_room}
 use Rattle.group_keeping.specs.Keeping.{keeping_of}
@@ -52,8 +64,8 @@ members-many-requires c =
       numbers_len = (whole.numbers_length, rw whole.numbers_length whole.units.few);
     }
 
-pub required-requires : goal.required-requires
-required-requires c =
+pub required-need-requires : goal.required-need-requires
+required-need-requires c =
     let b = births_of c.args.asked.now.candidates in
     let p = keeping_of c.args.asked.now.keeping in
     let whole = frame_ok c.args.asked.now.method _ _ _ _ _ _ _ b p _ c.requires in
@@ -92,26 +104,32 @@ leave-requires c =
     let few : c.members-many.result ≤ most_frame = omega (arith, fill_few c.members-many.ensures.filled, whole.numbers_length, whole.units.few) in
     (whole.numbers_length, rw many few, rw many (omega (arith, c.members-many.ensures.upper_bound, lists.long)))
 
-pub returns-in-Some : goal.returns-in-Some
-returns-in-Some c =
+-- an answer is the rotation that was found, or refusal 8
+by_found :
+    {said : Judged rules.Rotated} {numbers before after out : List ℕ} {q : Search} {need : ℕ} (found : Option Rotated) (answer : Result Rotated Refusal)
+    → answer ≡ ok_or found Refusal.NoStep → Left numbers q need before after found
+    → ((r : Rotated) → LeftAt numbers q need before after r → (answer_from (Ok r) ≡ said) × (after ≡ out))
+    → (of first_step q need ≡ steps → after ≡ before → (answer_from (Err Refusal.NoStep) ≡ said) × (after ≡ out))
+    → (answer_from answer ≡ said) × (after ≡ out)
+by_found {said} {numbers} {before} {after} {out} {q} {need} (Some r) answer e told there nowhere =
+    subst (λ (a : Result Rotated Refusal). (answer_from a ≡ said) × (after ≡ out)) (sym e) (there r told)
+by_found {said} {numbers} {before} {after} {out} {q} {need} None answer e told there nowhere =
+    subst (λ (a : Result Rotated Refusal). (answer_from a ≡ said) × (after ≡ out)) (sym e) (nowhere told.0 told.1)
+
+pub returns : goal.returns
+returns c =
     let b = births_of c.args.asked.now.candidates in
     let p = keeping_of c.args.asked.now.keeping in
     let held = fill_held c.members-many.ensures.filled in
     let many = length-take-le c.members-many.result c.members-many.new.places (held_room held) in
-    let need = c.required.ensures ∙ ap (required c.args.asked.now.fraction) (sym many) in
-    let left = c.in-Some.ensures in
+    let need = c.required-need.ensures ∙ ap (required c.args.asked.now.fraction) (sym many) in
+    let told = by_found _ _ c.ok_or.ensures.value c.leave.ensures
+    (λ r left.
     let turned = turn_given c.args.asked.now.method _ _ _ _ _ _ _ b p _ c.requires _ _ c.find_enlarged-g.ensures _ c.fill.ensures _ held.units_are _ _
     left.step_is need _ refl left.low _ left.many _ left.written_are in
-    record { result_value = rw left.start_is turned.0; leavers_after = turned.1 }
-
-pub returns-in-None : goal.returns-in-None
-returns-in-None c =
-    let b = births_of c.args.asked.now.candidates in
-    let p = keeping_of c.args.asked.now.keeping in
-    let held = fill_held c.members-many.ensures.filled in
-    let many = length-take-le c.members-many.result c.members-many.new.places (held_room held) in
-    let need = c.required.ensures ∙ ap (required c.args.asked.now.fraction) (sym many) in
-    let last = c.in-None.ensures in
+    (rw left.start_is turned.0, turned.1))
+    (λ last same.
     let refused = turn_refused c.args.asked.now.method _ _ _ _ _ _ _ b p _ c.requires _ _ c.find_enlarged-g.ensures _ c.fill.ensures _ held.units_are _ _
-    (sym last.0) need (omega arith) in
-    record { result_value = refused.0; leavers_after = last.1 ∙ refused.1 }
+    (sym last) need (omega arith) in
+    (refused.0, same ∙ refused.1)) in
+    record { result_value = told.0; leavers_after = told.1 }

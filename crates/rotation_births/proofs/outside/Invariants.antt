@@ -8,4 +8,4 @@ use Rattle.rotation_births.proofs.outside.Given as goal
 
 abbrev pub invariant-loop-unit : goal.invariant-loop-unit
 invariant-loop-unit l =
-    Standing l.births l.numbers l.unit-index l.j × (any_of (λ unit. not (elem unit l.numbers)) (drop l.unit-index l.births) ≡ any_of (λ unit. not (elem unit l.numbers)) l.births)
+    (l.frame.list.now ≡ l.numbers) × Standing l.births l.numbers l.unit-index l.frame.at × (any_of (λ unit. not (elem unit l.numbers)) (drop l.unit-index l.births) ≡ any_of (λ unit. not (elem unit l.numbers)) l.births)

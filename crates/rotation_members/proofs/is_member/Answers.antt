@@ -15,18 +15,18 @@ taken_out true false within = refl
 taken_out false true within = refl
 taken_out false false within = refl
 
-pub returns-else-marks-i-ne1 : goal.returns-else-marks-i-ne1
+pub returns-else-marks-i-ne-TAKE_ALL : goal.returns-else-marks-i-ne-TAKE_ALL
 unfolding member_of marked
-returns-else-marks-i-ne1 c = rw (eq-eqb _ 1 c.if-marks-i-ne1.false) (taken_out _ _ _)
+returns-else-marks-i-ne-TAKE_ALL c = rw (eq-eqb _ 1 c.if-marks-i-ne-TAKE_ALL.false) (taken_out _ _ _)
 
 pub returns-then-old : goal.returns-then-old
 unfolding member_of marked ◌or◌ ◌and◌
-returns-then-old c = rw (ne_eqb _ 1 c.if-marks-i-ne1.true, c.if-old.true)
+returns-then-old c = rw (ne_eqb _ 1 c.if-marks-i-ne-TAKE_ALL.true, c.if-old.true)
 
 pub returns-then-birth : goal.returns-then-birth
 unfolding member_of marked ◌or◌ ◌and◌
-returns-then-birth c = rw (ne_eqb _ 1 c.if-marks-i-ne1.true, c.if-old.false, c.if-birth.true) c.joins.ensures
+returns-then-birth c = rw (ne_eqb _ 1 c.if-marks-i-ne-TAKE_ALL.true, c.if-old.false, c.if-birth.true) c.joins.ensures
 
 pub returns-else-birth : goal.returns-else-birth
 unfolding member_of marked ◌or◌ ◌and◌
-returns-else-birth c = rw (ne_eqb _ 1 c.if-marks-i-ne1.true, c.if-old.false, c.if-birth.false)
+returns-else-birth c = rw (ne_eqb _ 1 c.if-marks-i-ne-TAKE_ALL.true, c.if-old.false, c.if-birth.false)

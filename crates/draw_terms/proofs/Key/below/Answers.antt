@@ -1,7 +1,8 @@
 -- A key is not below itself; other keys are compared by their parts.
 use mathlib.Core.Path.{sym, ◌∙◌}
+use borrow.Author.Tests.{not-false}
 use Rattle.draw_fraction.proofs.Order.{equal_fractions}
 use Rattle.draw_terms.proofs.Key.below.Goals as goal
 
-pub returns-then-eq : goal.returns-then-eq
-returns-then-eq c = sym (equal_fractions _ _ (sym c.eq.ensures ∙ c.if-eq.true))
+pub returns-else-ne : goal.returns-else-ne
+returns-else-ne c = c.if-ne.false ∙ sym (equal_fractions _ _ (not-false _ (sym c.ne.ensures ∙ c.if-ne.false)))

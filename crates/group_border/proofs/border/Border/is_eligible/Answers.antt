@@ -5,10 +5,10 @@ use Rattle.group.specs.Group.{marked}
 use Rattle.group_border.specs.Border.{eligible}
 use Rattle.group_border.proofs.border.Border.is_eligible.Goals as goal
 
-pub returns-else-self-i-ne1 : goal.returns-else-self-i-ne1
+pub returns-else-self-i-ne-TAKE_ALL : goal.returns-else-self-i-ne-TAKE_ALL
 unfolding eligible marked ◌and◌
-returns-else-self-i-ne1 c = rw (lt-ltb _ _ c.requires, eq-eqb _ _ c.if-self-i-ne1.false)
+returns-else-self-i-ne-TAKE_ALL c = rw (lt-ltb _ _ c.requires, eq-eqb _ _ c.if-self-i-ne-TAKE_ALL.false)
 
-pub returns-then-self-i-ne1 : goal.returns-then-self-i-ne1
+pub returns-then-self-i-ne-TAKE_ALL : goal.returns-then-self-i-ne-TAKE_ALL
 unfolding eligible marked ◌and◌
-returns-then-self-i-ne1 c = rw (lt-ltb _ _ c.requires, ne_eqb _ _ c.if-self-i-ne1.true) c.is_near.ensures
+returns-then-self-i-ne-TAKE_ALL c = rw (lt-ltb _ _ c.requires, ne_eqb _ _ c.if-self-i-ne-TAKE_ALL.true) c.is_near.ensures
