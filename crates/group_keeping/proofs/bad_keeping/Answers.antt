@@ -1,6 +1,6 @@
 -- `bad_keeping` meets its contract: its tests, asked one after the other, are the definition's.
 use mathlib.Core.Path.{◌≡◌, sym, ◌∙◌}
-use mathlib.Core.Bool.{Bool, not}
+use mathlib.Core.Bool.{Bool}
 use lib.Dec.{eqb, ltb}
 use Rattle.std.proofs.Common.{rules}
 use Rattle.rules.specs.Limits.{threshold_scale}
