@@ -5,7 +5,7 @@ ghost use Rattle.rules.specs.Total.{total_answer};
 ghost use Rattle.c_values.specs.Figures.{figure_from};
 ghost use Rattle.c_chain.specs.Record.{list_answer};
 
-use c_values::{Figure, figure_of, record};
+use c_values::{Figure, record};
 use refusals::Refusal;
 
 // A quarter on a lent record.
@@ -14,9 +14,9 @@ pub extern "C" fn vougecress_quarter(lent: &[u64], relatives: &[u32]) -> Figure
     ensures { result ≡ figure_from (list_answer lent.now (Call.quarter relatives.now)) }
 {
     if lent.len() < record::RECORD {
-        return figure_of(Err(Refusal::State));
+        return Figure::from(Err(Refusal::State));
     }
-    figure_of(record::load(lent).quarter(relatives).answer)
+    Figure::from(record::load(lent).quarter(relatives).answer)
 }
 
 // The index over sectors.
@@ -24,5 +24,5 @@ pub extern "C" fn vougecress_quarter(lent: &[u64], relatives: &[u32]) -> Figure
 pub extern "C" fn vougecress_total(shares: &[u32], indices: &[u64]) -> Figure
     ensures { result ≡ figure_from (total_answer shares.now indices.now) }
 {
-    figure_of(sector_total::total(shares, indices))
+    Figure::from(sector_total::total(shares, indices))
 }

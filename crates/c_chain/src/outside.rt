@@ -24,7 +24,7 @@ pub extern "C" fn vougecress_open_outside(
     ensures lent_after { lent.new ≡ opened_list (with_domain domain sampled.now weights.now shares.now relatives.now) start lent.old }
 {
     if lent.len() < record::RECORD {
-        return u32::from(Refusal::ResultBuffer.number());
+        return u32::from(Refusal::ResultBuffer);
     }
     let lists = Lists {
         weights,

@@ -5,7 +5,7 @@ ghost use Rattle.rules.specs.Panel.{plain};
 ghost use Rattle.c_values.specs.Figures.{figure_from};
 ghost use Rattle.c_chain.specs.Record.{opened_number, opened_list, list_answer, list_after};
 
-use c_values::{Figure, figure_of, record};
+use c_values::{Figure, record};
 use chain_open_input::Lists;
 use refusals::Refusal;
 
@@ -22,7 +22,7 @@ pub extern "C" fn vougecress_open(
     ensures lent_after { lent.new ≡ opened_list (plain weights.now shares.now relatives.now) start lent.old }
 {
     if lent.len() < record::RECORD {
-        return u32::from(Refusal::ResultBuffer.number());
+        return u32::from(Refusal::ResultBuffer);
     }
     let lists = Lists {
         weights,
@@ -39,11 +39,11 @@ pub extern "C" fn vougecress_close(lent: &mut [u64], relatives: &[u32]) -> Figur
     ensures lent_after { lent.new ≡ list_after lent.old (Call.close relatives.now) }
 {
     if lent.len() < record::RECORD {
-        return figure_of(Err(Refusal::State));
+        return Figure::from(Err(Refusal::State));
     }
     let held = record::load(lent);
     let answered = held.close(relatives);
-    let figure = figure_of(answered.answer);
+    let figure = Figure::from(answered.answer);
     record::lay(figure.refusal, answered.chain, lent);
     figure
 }

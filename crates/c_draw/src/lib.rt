@@ -20,21 +20,23 @@ pub struct Drawn {
     pub rest: u64,
 }
 
-// The answer as C has it. (Each kind of answer has a struct of its own in C, with other fields, so each is laid out by itself.)
-pub fn shown(answer: Result<draw::Drawn, Refusal>) -> Drawn
-    ensures { result ≡ drawn_from (answer_from answer) }
-{
-    match answer {
-        Ok(drawn) => Drawn {
-            refusal: 0,
-            n: drawn.n as u64,
-            rest: drawn.rest,
-        },
-        Err(why) => Drawn {
-            refusal: u32::from(why.number()),
-            n: 0,
-            rest: 0,
-        },
+// (The C interface has a struct for each answer, its fields with names of their own: each is laid out by itself.)
+impl From<Result<draw::Drawn, Refusal>> for Drawn {
+    ghost from_gives = { λ answer result. result ≡ drawn_from (answer_from answer) };
+
+    fn from(answer: Result<draw::Drawn, Refusal>) -> Drawn {
+        match answer {
+            Ok(drawn) => Drawn {
+                refusal: 0,
+                n: drawn.n as u64,
+                rest: drawn.rest,
+            },
+            Err(why) => Drawn {
+                refusal: u32::from(why),
+                n: 0,
+                rest: 0,
+            },
+        }
     }
 }
 
@@ -58,7 +60,7 @@ pub extern "C" fn vougecress_draw(
         turnovers,
         randoms,
     };
-    shown(draw::draw(&frame, z, start, panel, weights))
+    Drawn::from(draw::draw(&frame, z, start, panel, weights))
 }
 
 #[unsafe(no_mangle)]
@@ -81,5 +83,5 @@ pub extern "C" fn vougecress_draw_poisson(
         randoms,
     };
     let answer = draw::draw_by(Method::SequentialPoisson, &frame, z, start, panel, weights);
-    shown(answer)
+    Drawn::from(answer)
 }

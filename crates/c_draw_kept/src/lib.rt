@@ -49,7 +49,7 @@ pub extern "C" fn vougecress_draw_kept(
             second,
         },
     };
-    c_draw::shown(draw::draw_kept(&design, panel, weights))
+    Drawn::from(draw::draw_kept(&design, panel, weights))
 }
 
 #[unsafe(no_mangle)]
@@ -87,5 +87,5 @@ pub extern "C" fn vougecress_draw_poisson_kept(
             second,
         },
     };
-    c_draw::shown(draw::draw_kept(&design, panel, weights))
+    Drawn::from(draw::draw_kept(&design, panel, weights))
 }

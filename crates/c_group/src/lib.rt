@@ -19,23 +19,25 @@ pub struct Taken {
     pub rest: u64,
 }
 
-// The answer as C has it. (Each kind of answer has a struct of its own in C, with other fields, so each is laid out by itself.)
-pub fn shown(answer: Result<Group, Refusal>) -> Taken
-    ensures { result ≡ taken_from (answer_from answer) }
-{
-    match answer {
-        Ok(g) => Taken {
-            refusal: 0,
-            q: g.q as u64,
-            n: g.n as u64,
-            rest: g.rest,
-        },
-        Err(why) => Taken {
-            refusal: u32::from(why.number()),
-            q: 0,
-            n: 0,
-            rest: 0,
-        },
+// (The C interface has a struct for each answer, its fields with names of their own: each is laid out by itself.)
+impl From<Result<Group, Refusal>> for Taken {
+    ghost from_gives = { λ answer result. result ≡ taken_from (answer_from answer) };
+
+    fn from(answer: Result<Group, Refusal>) -> Taken {
+        match answer {
+            Ok(g) => Taken {
+                refusal: 0,
+                q: g.q as u64,
+                n: g.n as u64,
+                rest: g.rest,
+            },
+            Err(why) => Taken {
+                refusal: u32::from(why),
+                q: 0,
+                n: 0,
+                rest: 0,
+            },
+        }
     }
 }
 
@@ -44,5 +46,5 @@ pub extern "C" fn vougecress_take_all(turnovers: &[u64], z: usize, marks: &mut [
     ensures value { result ≡ taken_from (take_all_answer turnovers.now z marks.old) }
     ensures marks_after { marks.new ≡ take_all_marks turnovers.now z marks.old }
 {
-    shown(group_entry::take_all(turnovers, z, marks))
+    Taken::from(group_entry::take_all(turnovers, z, marks))
 }

@@ -19,26 +19,27 @@ pub struct Register {
     pub offset: u64,
 }
 
-// The answer in C's terms.
-fn answered(answer: Result<usize, ImportError>) -> Register
-    ensures { result ≡ register_from (imported_from answer) }
-{
-    match answer {
-        Ok(n) => Register {
-            refusal: 0,
-            count: n as u64,
-            offset: 0,
-        },
-        Err(ImportError::BadLine(at)) => Register {
-            refusal: u32::from(Refusal::RegisterLine.number()),
-            count: 0,
-            offset: at as u64,
-        },
-        Err(ImportError::TooMany) => Register {
-            refusal: u32::from(Refusal::RegisterRoom.number()),
-            count: 0,
-            offset: 0,
-        },
+impl From<Result<usize, ImportError>> for Register {
+    ghost from_gives = { λ answer result. result ≡ register_from (imported_from answer) };
+
+    fn from(answer: Result<usize, ImportError>) -> Register {
+        match answer {
+            Ok(n) => Register {
+                refusal: 0,
+                count: n as u64,
+                offset: 0,
+            },
+            Err(ImportError::BadLine(at)) => Register {
+                refusal: u32::from(Refusal::RegisterLine),
+                count: 0,
+                offset: at as u64,
+            },
+            Err(ImportError::TooMany) => Register {
+                refusal: u32::from(Refusal::RegisterRoom),
+                count: 0,
+                offset: 0,
+            },
+        }
     }
 }
 
@@ -55,7 +56,7 @@ pub extern "C" fn vougecress_import(
     ensures turnovers_after { turnovers.new ≡ imported_turnovers text.now numbers.old turnovers.old randoms.old }
     ensures randoms_after { randoms.new ≡ imported_randoms text.now numbers.old turnovers.old randoms.old }
 {
-    answered(frame_lines::import_lists(text, numbers, turnovers, randoms))
+    Register::from(frame_lines::import_lists(text, numbers, turnovers, randoms))
 }
 
 // Each line fills one unit of the list.
@@ -64,5 +65,5 @@ pub extern "C" fn vougecress_import_units(text: &[u8], list: &mut [Unit]) -> Reg
     ensures { (result ≡ register_from (imported text.now (length list.old)))
         × (list.new ≡ units_after text.now list.old) }
 {
-    answered(frame_lines::import_units(text, list))
+    Register::from(frame_lines::import_units(text, list))
 }

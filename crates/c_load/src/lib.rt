@@ -3,13 +3,34 @@
 
 ghost use Rattle.std.specs.Prelude.{◌≡◌};
 ghost use Rattle.rules.specs.Load.{load_answer, load_numbers, load_turnovers, load_randoms};
+ghost use Rattle.frame_made.specs.Answer.{answer_from};
 ghost use Rattle.c_load.specs.Loaded.{loaded_from};
+
+use refusals::Refusal;
 
 #[repr(C)]
 #[derive(Drop)]
 pub struct Loaded {
     pub refusal: u32,
     pub count: u64,
+}
+
+// (The C interface has a struct for each answer, its fields with names of their own: each is laid out by itself.)
+impl From<Result<usize, Refusal>> for Loaded {
+    ghost from_gives = { λ answer result. result ≡ loaded_from (answer_from answer) };
+
+    fn from(answer: Result<usize, Refusal>) -> Loaded {
+        match answer {
+            Ok(made) => Loaded {
+                refusal: 0,
+                count: made as u64,
+            },
+            Err(why) => Loaded {
+                refusal: u32::from(why),
+                count: 0,
+            },
+        }
+    }
 }
 
 // The generated frame in the first `count` places of three lent lists.
@@ -26,14 +47,5 @@ pub extern "C" fn vougecress_load(
     ensures turnovers_after { turnovers.new ≡ load_turnovers start count numbers.old turnovers.old randoms.old }
     ensures randoms_after { randoms.new ≡ load_randoms start count numbers.old turnovers.old randoms.old }
 {
-    match frame_made::load(start, count, numbers, turnovers, randoms) {
-        Ok(made) => Loaded {
-            refusal: 0,
-            count: made as u64,
-        },
-        Err(why) => Loaded {
-            refusal: u32::from(why.number()),
-            count: 0,
-        },
-    }
+    Loaded::from(frame_made::load(start, count, numbers, turnovers, randoms))
 }

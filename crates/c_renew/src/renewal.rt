@@ -20,7 +20,7 @@ pub extern "C" fn vougecress_renew(
     ensures lent_after { lent.new ≡ renewed_list (plain weights.now shares.now relatives.now) lent.old }
 {
     if lent.len() < record::RECORD {
-        return u32::from(Refusal::State.number());
+        return u32::from(Refusal::State);
     }
     let before = record::load(lent);
     let lists = Lists {

@@ -23,23 +23,25 @@ pub struct Rotated {
     pub count: u64,
 }
 
-// The answer as C has it. (Each kind of answer has a struct of its own in C, with other fields, so each is laid out by itself.)
-pub fn shown(answer: Result<rotation::Rotated, Refusal>) -> Rotated
-    ensures { result ≡ rotated_from (answer_from answer) }
-{
-    match answer {
-        Ok(rotated) => Rotated {
-            refusal: 0,
-            k: rotated.k,
-            start: rotated.start,
-            count: rotated.count as u64,
-        },
-        Err(why) => Rotated {
-            refusal: u32::from(why.number()),
-            k: 0,
-            start: 0,
-            count: 0,
-        },
+// (The C interface has a struct for each answer, its fields with names of their own: each is laid out by itself.)
+impl From<Result<rotation::Rotated, Refusal>> for Rotated {
+    ghost from_gives = { λ answer result. result ≡ rotated_from (answer_from answer) };
+
+    fn from(answer: Result<rotation::Rotated, Refusal>) -> Rotated {
+        match answer {
+            Ok(rotated) => Rotated {
+                refusal: 0,
+                k: rotated.k,
+                start: rotated.start,
+                count: rotated.count as u64,
+            },
+            Err(why) => Rotated {
+                refusal: u32::from(why),
+                k: 0,
+                start: 0,
+                count: 0,
+            },
+        }
     }
 }
 
@@ -78,7 +80,7 @@ pub extern "C" fn vougecress_rotate(
         births,
         previous,
     };
-    shown(rotation::rotate(&frame, z, &candidates, fraction, leavers))
+    Rotated::from(rotation::rotate(&frame, z, &candidates, fraction, leavers))
 }
 
 #[unsafe(no_mangle)]
@@ -123,5 +125,5 @@ pub extern "C" fn vougecress_rotate_poisson(
         fraction,
         leavers,
     );
-    shown(answer)
+    Rotated::from(answer)
 }

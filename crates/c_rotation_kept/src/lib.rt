@@ -63,7 +63,7 @@ pub extern "C" fn vougecress_rotate_kept(
             second,
         },
     };
-    c_rotation::shown(rotation::rotate_kept(&asked, leavers))
+    Rotated::from(rotation::rotate_kept(&asked, leavers))
 }
 
 #[unsafe(no_mangle)]
@@ -113,5 +113,5 @@ pub extern "C" fn vougecress_rotate_poisson_kept(
             second,
         },
     };
-    c_rotation::shown(rotation::rotate_kept(&asked, leavers))
+    Rotated::from(rotation::rotate_kept(&asked, leavers))
 }

@@ -6,8 +6,8 @@ ghost use Rattle.rules.specs.Kept.{keeping, take_all_units_answer, take_all_unit
 ghost use Rattle.c_group.specs.Answer.{taken_from};
 
 use c_group::Taken;
-use group_kept::TakeAll;
 use group_keeping::Keeping;
+use group_kept::TakeAll;
 
 #[unsafe(no_mangle)]
 pub extern "C" fn vougecress_take_all_units(
@@ -36,5 +36,5 @@ pub extern "C" fn vougecress_take_all_units(
         keeping,
     };
     let answer = group_units::take_all_units(&asked, units);
-    c_group::shown(answer)
+    Taken::from(answer)
 }

@@ -19,14 +19,17 @@ pub struct Figure {
     pub figure: u64,
 }
 
-pub fn figure_of(answer: Result<u64, Refusal>) -> Figure
-    ensures { result ≡ figure_from (answer_from answer) }
-{
-    match answer {
-        Ok(figure) => Figure { refusal: 0, figure },
-        Err(why) => Figure {
-            refusal: u32::from(why.number()),
-            figure: 0,
-        },
+// (The C interface has a struct for each answer, its fields with names of their own: each is laid out by itself.)
+impl From<Result<u64, Refusal>> for Figure {
+    ghost from_gives = { λ answer result. result ≡ figure_from (answer_from answer) };
+
+    fn from(answer: Result<u64, Refusal>) -> Figure {
+        match answer {
+            Ok(figure) => Figure { refusal: 0, figure },
+            Err(why) => Figure {
+                refusal: u32::from(why),
+                figure: 0,
+            },
+        }
     }
 }

@@ -1,9 +1,11 @@
 // A command that was read, as numbers.
 ghost use Rattle.std.specs.Prelude.{◌≡◌};
-ghost use Rattle.stream_read.specs.Value.{command_from};
+ghost use Rattle.stream_read.specs.Value.{byte_of, command_from};
+ghost use Rattle.refusals.specs.Number.{refusal_of};
 ghost use Rattle.c_values.specs.Reads.{nothing_read, with_operands, command_read};
 
-use stream_read::Command;
+use refusals::Refusal;
+use stream_read::{Command, Kind};
 
 // The command at the front of a stream, and the bytes that it takes.
 #[repr(C)]
@@ -18,9 +20,13 @@ pub struct Read {
 }
 
 // No command: the end, or a refusal.
-pub fn nothing_read(refusal: u32) -> Read
-    ensures { result ≡ nothing_read refusal }
+pub fn nothing_read(verdict: Result<(), Refusal>) -> Read
+    ensures { result ≡ nothing_read (refusal_of verdict) }
 {
+    let refusal = match verdict {
+        Ok(()) => 0,
+        Err(why) => u32::from(why),
+    };
     Read {
         refusal,
         command: 0,
@@ -31,12 +37,13 @@ pub fn nothing_read(refusal: u32) -> Read
     }
 }
 
-pub fn with_operands(command: u32, taken: usize, first: u64, second: u64, third: u64) -> Read
-    ensures { result ≡ with_operands command taken first second third }
+// A command of this kind, its operands in the order of the stream; absent ones are 0.
+fn with_operands(kind: Kind, taken: usize, first: u64, second: u64, third: u64) -> Read
+    ensures { result ≡ with_operands (byte_of kind) taken first second third }
 {
     Read {
         refusal: 0,
-        command,
+        command: kind as u32,
         taken: taken as u64,
         first,
         second,
@@ -44,6 +51,7 @@ pub fn with_operands(command: u32, taken: usize, first: u64, second: u64, third:
     }
 }
 
+// (Not a From: the bytes that the command takes come beside it.)
 pub fn command_read(command: Command, taken: usize) -> Read
     ensures { result ≡ command_read (command_from command) taken }
 {
@@ -52,18 +60,36 @@ pub fn command_read(command: Command, taken: usize) -> Read
             number,
             turnover,
             random,
-        } => with_operands(1, taken, number as u64, turnover, random as u64),
-        Command::Draw { size, start } => with_operands(2, taken, size as u64, start as u64, 0),
-        Command::Share { place, share } => with_operands(3, taken, place as u64, share as u64, 0),
-        Command::Relative { place, relative } => with_operands(
-            4,
+        } => with_operands(
+            Kind::Unit,
             taken,
-            place as u64,
-            relative as u64,
+            u64::from(number),
+            turnover,
+            u64::from(random),
+        ),
+        Command::Draw { size, start } => with_operands(
+            Kind::Draw,
+            taken,
+            u64::from(size),
+            u64::from(start),
             0,
         ),
-        Command::Open { start } => with_operands(5, taken, start, 0, 0),
-        Command::Quarter => with_operands(6, taken, 0, 0, 0),
-        Command::Close => with_operands(7, taken, 0, 0, 0),
+        Command::Share { place, share } => with_operands(
+            Kind::Share,
+            taken,
+            u64::from(place),
+            u64::from(share),
+            0,
+        ),
+        Command::Relative { place, relative } => with_operands(
+            Kind::Relative,
+            taken,
+            u64::from(place),
+            u64::from(relative),
+            0,
+        ),
+        Command::Open { start } => with_operands(Kind::Open, taken, start, 0, 0),
+        Command::Quarter => with_operands(Kind::Quarter, taken, 0, 0, 0),
+        Command::Close => with_operands(Kind::Close, taken, 0, 0, 0),
     }
 }

@@ -67,6 +67,6 @@ pub fn lay_opened(opened: Result<Chain, Refusal>, lent: &mut [u64]) -> u32
             store(chain, lent);
             0
         }
-        Err(why) => u32::from(why.number()),
+        Err(why) => u32::from(why),
     }
 }

@@ -4,8 +4,10 @@
 
 ghost use Rattle.std.specs.Prelude.{◌≡◌};
 ghost use Rattle.rules.specs.Writing.{lists, write_answer, write_bytes, read_all_answer, read_all_lists};
+ghost use Rattle.stream_write.specs.Answer.{answer_from};
 ghost use Rattle.c_write.specs.Written.{written_from, listed_from};
 
+use refusals::Refusal;
 use stream_all::Places;
 use stream_write::Lists;
 
@@ -17,12 +19,48 @@ pub struct Written {
     pub length: u64,
 }
 
+// (The C interface has a struct for each answer, its fields with names of their own: each is laid out by itself.)
+impl From<Result<usize, Refusal>> for Written {
+    ghost from_gives = { λ answer result. result ≡ written_from (answer_from answer) };
+
+    fn from(answer: Result<usize, Refusal>) -> Written {
+        match answer {
+            Ok(bytes) => Written {
+                refusal: 0,
+                length: bytes as u64,
+            },
+            Err(why) => Written {
+                refusal: u32::from(why),
+                length: 0,
+            },
+        }
+    }
+}
+
 // The commands that stand in the lists.
 #[repr(C)]
 #[derive(Drop)]
 pub struct Listed {
     pub refusal: u32,
     pub count: u64,
+}
+
+// (The C interface has a struct for each answer, its fields with names of their own: each is laid out by itself.)
+impl From<Result<usize, Refusal>> for Listed {
+    ghost from_gives = { λ answer result. result ≡ listed_from (answer_from answer) };
+
+    fn from(answer: Result<usize, Refusal>) -> Listed {
+        match answer {
+            Ok(commands) => Listed {
+                refusal: 0,
+                count: commands as u64,
+            },
+            Err(why) => Listed {
+                refusal: u32::from(why),
+                count: 0,
+            },
+        }
+    }
 }
 
 #[unsafe(no_mangle)]
@@ -50,16 +88,7 @@ pub extern "C" fn vougecress_write(
         randoms,
         amounts,
     };
-    match stream_write::write(&lists, out) {
-        Ok(bytes) => Written {
-            refusal: 0,
-            length: bytes as u64,
-        },
-        Err(why) => Written {
-            refusal: u32::from(why.number()),
-            length: 0,
-        },
-    }
+    Written::from(stream_write::write(&lists, out))
 }
 
 #[unsafe(no_mangle)]
@@ -86,14 +115,5 @@ pub extern "C" fn vougecress_read_all(
         randoms,
         amounts,
     };
-    match stream_all::read_all(stream, &mut places) {
-        Ok(commands) => Listed {
-            refusal: 0,
-            count: commands as u64,
-        },
-        Err(why) => Listed {
-            refusal: u32::from(why.number()),
-            count: 0,
-        },
-    }
+    Listed::from(stream_all::read_all(stream, &mut places))
 }

@@ -18,17 +18,18 @@ pub struct Year {
     pub count: u64,
 }
 
-// The answer in C's terms.
-fn answered(came: Came) -> Year
-    ensures { result ≡ year_from came }
-{
-    let count = came.count as u64;
-    match came.verdict {
-        Ok(()) => Year { refusal: 0, count },
-        Err(why) => Year {
-            refusal: u32::from(why.number()),
-            count,
-        },
+impl From<Came> for Year {
+    ghost from_gives = { λ came result. result ≡ year_from came };
+
+    fn from(came: Came) -> Year {
+        let count = came.count as u64;
+        match came.verdict {
+            Ok(()) => Year { refusal: 0, count },
+            Err(why) => Year {
+                refusal: u32::from(why),
+                count,
+            },
+        }
     }
 }
 
@@ -57,7 +58,7 @@ pub extern "C" fn vougecress_year(
     ensures figures_after { figures.new ≡ (lent_year lent.old (four_calls first.now second.now third.now last.now) figures.old).figures }
 {
     let run = chain_year::year_of(held(lent), first, second, third, last, figures);
-    let answer = answered(run.came);
+    let answer = Year::from(run.came);
     if lent.len() < record::RECORD {
         return answer;
     }

@@ -25,7 +25,7 @@ pub fn lay(text: &mut [u8; TEXT_ROOM], stepped: Stepped, at: usize) -> usize
     ensures { (result ≡ length (text_at (saying_from stepped) at)) × (text.new ≡ written 0 (text_at (saying_from stepped) at) text.old) }
 {
     match stepped.says {
-        Err(why) => text_lines::refusal_line(text, why.number(), at),
+        Err(why) => text_lines::refusal_line(text, u32::from(why), at),
         Ok(Saying::Nothing) => 0,
         Ok(Saying::Panel(numbers)) => {
             let panel = stepped.job.panel;

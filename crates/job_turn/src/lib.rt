@@ -24,7 +24,7 @@ pub fn turn(total: usize, s: &[u8], job: Job, text: &mut [u8; TEXT_ROOM]) -> Tur
     match stream_front::reading_at(s) {
         Err(why) => Turned {
             job,
-            count: text_lines::refusal_line(text, why.number(), at),
+            count: text_lines::refusal_line(text, u32::from(why), at),
             more: false,
         },
         Ok(None) => Turned {

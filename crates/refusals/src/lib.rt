@@ -43,11 +43,11 @@ pub enum Refusal {
     PreviousLists = 30,
 }
 
-impl Refusal {
-    // The number that document 01 gives the case. A From for u8 would say no more, and a caller would write it no plainer.
-    pub fn number(self) -> u8
-        ensures { result ≡ number_of self }
-    {
-        self as u8
+// The number that document 01 gives the case. (Written out: no derive gives it.)
+impl From<Refusal> for u32 {
+    ghost from_gives = { λ why result. result ≡ number_of why };
+
+    fn from(why: Refusal) -> u32 {
+        why as u32
     }
 }

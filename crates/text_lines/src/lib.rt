@@ -42,7 +42,7 @@ pub fn close_line(out: &mut [u8], figure: u64) -> usize
 }
 
 // `R number offset`.
-pub fn refusal_line(out: &mut [u8], number: u8, offset: usize) -> usize
+pub fn refusal_line(out: &mut [u8], number: u32, offset: usize) -> usize
     ensures { Lays line_room (refusal_line number offset) out.old out.new result }
 {
     if out.len() < LINE_ROOM {

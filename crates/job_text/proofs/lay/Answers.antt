@@ -19,7 +19,7 @@ use Rattle.job_text.proofs.lay.Goals as goal
 pub returns-in-Err : goal.returns-in-Err
 returns-in-Err c =
     let text = λ (said : Judged rules.Saying). text_at said c.args.at in
-    let line = ap (λ (k : ℕ). refusal_line k c.args.at) c.number.ensures in
+    let line = ap (λ (k : ℕ). refusal_line k c.args.at) c.from.ensures in
     let e = line ∙ says text c.args.stepped _ c.in-Err.is in
     laid_all line_room _ _ _ _ _ e (omega arith) c.refusal_line.ensures
 

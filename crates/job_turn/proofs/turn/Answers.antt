@@ -11,7 +11,7 @@ use Rattle.job_turn.proofs.Turns.{renders, command_renders}
 use Rattle.job_turn.proofs.turn.Goals as goal
 
 pub returns-in-Err : goal.returns-in-Err
-returns-in-Err c = let line = ap (λ (k : ℕ). refusal_line k c.saturating_sub-at.result) c.number.ensures in
+returns-in-Err c = let line = ap (λ (k : ℕ). refusal_line k c.saturating_sub-at.result) c.from.ensures in
     let l = laid_all line_room _ _ _ _ _ line (omega arith) c.refusal_line.ensures in
     renders _ _ _ _ _ _ _ c.saturating_sub-at.result (sym (ap reading_from c.in-Err.is) ∙ c.reading_at.ensures) c.saturating_sub-at.ensures
     refl refl refl l.0 l.1

@@ -11,10 +11,10 @@ use Rattle.c_chain.proofs.figures.vougecress_quarter.Goals as goal
 
 pub returns-then-lent-lt-RECORD : goal.returns-then-lent-lt-RECORD
 unfolding list_refusal list_answer refuse ◌then◌
-returns-then-lent-lt-RECORD c = rw (lt-ltb (length c.args.lent.now) record_places c.if-lent-lt-RECORD.true) c.figure_of.ensures
+returns-then-lent-lt-RECORD c = rw (lt-ltb (length c.args.lent.now) record_places c.if-lent-lt-RECORD.true) c.from.ensures
 
 pub returns : goal.returns
 unfolding list_refusal list_answer call_answer refuse ◌then◌
 returns c = let call = Call.quarter c.args.relatives.now in
     let told = c.quarter.ensures.answer_value ∙ ap (λ (r : Chain). call_answer r call) c.load.ensures in
-    rw (le-ltb (length c.args.lent.now) record_places c.if-lent-lt-RECORD.false) (c.figure_of-2.ensures ∙ ap figure_from told)
+    rw (le-ltb (length c.args.lent.now) record_places c.if-lent-lt-RECORD.false) (c.from-2.ensures ∙ ap figure_from told)
