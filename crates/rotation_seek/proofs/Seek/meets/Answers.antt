@@ -18,12 +18,10 @@ further list r x false e = omega (arith, behind_none list r x (sym e))
 
 pub returns : goal.returns
 unfolding stands ◌and◌
-returns c =
-    let told : c.eq-stands.result ≡ stands c.args.self.now.list.now c.first_from-place.result c.args.number = search (rules) in
-    record {
-      same = refl;
-      place = c.first_from-place.result;
-      reached = c.first_from-place.ensures;
-      told = told;
-      onward = rw c.from.ensures (further _ _ _ _ told);
-    }
+returns c = record {
+  same = refl;
+  place = c.first_from-place.result;
+  reached = c.first_from-place.ensures;
+  told = search (rules);
+  onward = rw c.from.ensures (further _ _ _ _ (search (rules)));
+}
