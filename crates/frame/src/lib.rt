@@ -21,6 +21,7 @@ pub struct Frame<'a> {
 }
 
 // "empty or over 16,384"
+#[tactic(auto, using(rules::proofs::Tests::or_on, rules::proofs::Tests::or_off), unfolding(rules::specs::TakeAll::bad_count))]
 pub fn bad_count(turnovers: &[u64]) -> bool
     ensures { result ≡ bad_count turnovers.now }
 {

@@ -1,5 +1,5 @@
 -- After i turns the first i marks are written and the rest is as it was.
-use mathlib.Core.Path.{◌≡◌, refl, sym, ◌∙◌}
+use mathlib.Core.Path.{◌≡◌, refl, sym}
 use mathlib.Core.Bool.{Bool, true, false, cond}
 use Prim.Native.Nat.{◌<◌}
 use native.Mathlib.Omega.{arith}
@@ -24,6 +24,6 @@ unfolding has_least
 loop-i-preserved c =
     let l = c.loop-i in
     let room : l.i < length c.args.marks.now = omega (arith, c.requires, c.loop-i-test.true) in (
-      written_store every (λ j. cond (has_least c.args.turnovers.now c.args.least j) 1 0) _ _ l.i l.i _ refl (c.from.ensures ∙ byte_is _) l.invariant.0 (sym (count_every _)) room,
+      written_store every (λ j. cond (has_least c.args.turnovers.now c.args.least j) 1 0) _ _ l.i l.i _ refl (omega (arith, c.from.ensures, byte_is (has_least c.args.turnovers.now c.args.least l.i))) l.invariant.0 (sym (count_every _)) room,
       simp length-set l.invariant.1,
     )
