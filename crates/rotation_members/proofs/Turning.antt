@@ -1,5 +1,5 @@
 -- A turn of the pass: the list is filled with the members below unit i, and the old panel and the births are passed as far.
-use mathlib.Core.Path.{◌≡◌, refl, ◌∙◌}
+use mathlib.Core.Path.{◌≡◌, ◌∙◌}
 use mathlib.Core.Bool.{Bool, true, false}
 use mathlib.Core.List.{List}
 use Prim.Native.Nat.{ℕ, ◌+◌, ◌≤◌, ◌<◌}
@@ -67,11 +67,11 @@ module _ (f : Frame) (marks : List ℕ) (c : Candidates) (before after : List �
   }
 
   pub turn_in :
-      part ≡ true → count < length before
-      → At f marks c before (set after count i) (count + 1) (behind c.panel.now r x) (behind c.births.now q x) (i + 1)
-  turn_in e room = record {
+      part ≡ true → count < length before → (v : ℕ) → v ≡ i
+      → At f marks c before (set after count v) (count + 1) (behind c.panel.now r x) (behind c.births.now q x) (i + 1)
+  turn_in e room v place = record {
     in_panel = stand_behind at.in_panel up l h;
     in_births = stand_behind at.in_births up l k;
     fewer = omega (arith, at.fewer, h.onward, k.onward, passed_one e);
-    filled = fill_more at.filled i (told ∙ e) refl room;
+    filled = fill_more at.filled v (told ∙ e) place room;
   }

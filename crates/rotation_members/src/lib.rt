@@ -17,6 +17,7 @@ use rotation_births::{Candidates, Previous};
 use rotation_seek::Seek;
 
 // Unit i is a member, where it is told whether it is of the old panel and whether it is a birth. A unit of both is one because it is of the old panel.
+#[tactic(auto, using(crate::proofs::Judged::member_as))]
 fn is_member(
     frame: &Frame,
     marks: &[u8],

@@ -29,8 +29,8 @@ module _ {still : ℕ → Bool} {before : ℕ → ℕ → Bool} {n len : ℕ} {t
   pub given_here : get_or new (get_or top k 0) 0 ≡ get_or old (get_or top k 0) 0
   given_here = w.at (get_or top k 0) (r.low k l) ∙ rw (first_not o r k l) (omega arith)
 
-  pub given_more : n ≤ length new → Given still before n (k + 1) old (set new (get_or top k 0) (get_or new (get_or top k 0) 0 + 1))
-  given_more room = rw (add-one k) (record {
+  pub given_more : (v : ℕ) → v ≡ get_or new (get_or top k 0) 0 + 1 → n ≤ length new → Given still before n (k + 1) old (set new (get_or top k 0) v)
+  given_more v more room = rw (more, add-one k) (record {
     same = simp length-set w.same;
     at = λ i li.
         by_test (eqb i (get_or top k 0))

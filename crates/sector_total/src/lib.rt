@@ -27,6 +27,7 @@ fn out_of_range(indices: &[u64]) -> bool
 }
 
 // 14: lists unequal, empty, too long, not adding to 1, or an index out of range.
+#[tactic(auto, using(crate::proofs::Std::bad_as))]
 fn bad_sectors(shares: &[u32], indices: &[u64]) -> bool
     ensures { result ≡ bad_sectors shares.now indices.now }
 {

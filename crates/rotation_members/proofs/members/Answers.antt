@@ -4,6 +4,7 @@ use mathlib.Core.List.{List}
 use Prim.Native.Nat.{ℕ, ◌<◌}
 use native.Mathlib.Omega.{arith}
 use lib.ListN.{length, get_or}
+use Rattle.std.proofs.Common.{rules}
 use Rattle.rotation_seek.specs.Passed.{Passed, stands}
 use Rattle.rotation_seek.proofs.Passing.{stand_first, met_reached, met_told, met_onward, met_same}
 use Rattle.rotation_members.specs.Members.{member_of}
@@ -62,12 +63,12 @@ loop-i-preserved c =
     member_of c.args.frame.now.turnovers.now c.args.frame.now.randoms.now c.args.marks.now c.args.candidates.now.previous c.loop-i.i (stands c.args.candidates.now.panel.now panel.place x)
     (stands c.args.candidates.now.births.now births.place x)
     ≡ c.is_member.result =
-    rw (← met_told panel-is panel, ← met_told births-are births) (sym c.is_member.ensures) in (
+    rw (← met_told panel-is panel, ← met_told births-are births) (search rules) in (
       met_same panel-is panel,
       met_same births-are births,
       rw (met_onward panel-is panel, met_onward births-are births)
           (elim c.if-is_member.branch [
-            | then-is_member w ↦ rw (w.places-is, w.count-is) (turn_in _ _ _ _ _ _ _ _ _ _ _ at up.0 up.1 up.2 l old birth (tested ∙ w.if-is_member.true) room)
+            | then-is_member w ↦ rw (w.places-is, w.count-is) (turn_in _ _ _ _ _ _ _ _ _ _ _ at up.0 up.1 up.2 l old birth (tested ∙ w.if-is_member.true) room _ (search rules))
             | else-is_member w ↦ rw (w.places-is, w.count-is) (turn_out _ _ _ _ _ _ _ _ _ _ _ at up.0 up.1 up.2 l old birth (tested ∙ w.if-is_member.false))
           ]),
     )

@@ -4,6 +4,7 @@ use mathlib.Core.List.{List}
 use Prim.Native.Nat.{ℕ, ◌≤◌, ◌<◌}
 use native.Mathlib.Omega.{arith}
 use lib.ListN.{length, get_or, take, length-take}
+use Rattle.std.proofs.Common.{rules}
 use Rattle.rules.specs.Limits.{most_sectors, most_interviews}
 use Rattle.rules.specs.Selection.{count}
 use Rattle.rules.specs.TakeAll.{larger}
@@ -55,7 +56,7 @@ pub loop-place-init : goal.loop-place-init
 loop-place-init c = given_none _ _ _ _
 
 pub overflow_add-counts : goal.overflow_add-counts
-overflow_add-counts c = omega (arith, count_low _ _ _ _ _ _ c.requires c.rank_still.ensures c.rank_still.auto.places _ _ c.loop-place.invariant c.loop-place-test.true)
+overflow_add-counts c = search (arith, count_low _ _ _ _ _ _ c.requires c.rank_still.ensures c.rank_still.auto.places _ _ c.loop-place.invariant c.loop-place-test.true)
 
 pub loop-place-preserved : goal.loop-place-preserved
 loop-place-preserved c =
@@ -64,7 +65,7 @@ loop-place-preserved c =
     let all = c.rank_still.ensures in
     let long = c.rank_still.auto.places in
     let w = c.loop-place.invariant in
-    given_more (order _ _ _ _ _ _ asked all long) (first _ _ _ _ _ _ asked all long) _ (turn _ _ _ _ _ _ asked all long _ _ w c.loop-place-test.true) _ _ w (omega (arith, asked.room, w.same))
+    given_more (order _ _ _ _ _ _ asked all long) (first _ _ _ _ _ _ asked all long) _ (turn _ _ _ _ _ _ asked all long _ _ w c.loop-place-test.true) _ _ w _ (search rules) (omega (arith, asked.room, w.same))
 
 pub returns : goal.returns
 returns c =
