@@ -7,7 +7,7 @@ ghost use Rattle.text_field.specs.Value.{Read};
 
 use limits::MOST_FIELD;
 
-// A text, and the offset that is read next; where a part is not of the form, the offset is of no use.
+// A text, and the offset that is read next; where a part is not of the form, the offset stays.
 #[derive(Drop)]
 pub struct Cursor<'a> {
     pub text: &'a [u8],
@@ -85,15 +85,25 @@ impl<'a> Cursor<'a> {
     pub fn field_and_comma(&mut self, most: u64) -> Option<u64>
         ensures { Read self.old self.new result (field_and_comma self.old.text.now self.old.at most) }
     {
+        let at = self.at;
         let v = self.number(most)?;
-        self.comma(v)
+        let part = self.comma(v);
+        if part.is_none() {
+            self.at = at;
+        }
+        part
     }
 
-    // A field and the end of its line. Apart from the one above: a parameter for what must follow would be no plainer than two lines.
+    // A field and the end of its line. Apart from the one above: a parameter for what must follow would be no plainer.
     pub fn field_and_end(&mut self, most: u64) -> Option<u64>
         ensures { Read self.old self.new result (field_and_end self.old.text.now self.old.at most) }
     {
+        let at = self.at;
         let v = self.number(most)?;
-        self.line_end(v)
+        let part = self.line_end(v);
+        if part.is_none() {
+            self.at = at;
+        }
+        part
     }
 }

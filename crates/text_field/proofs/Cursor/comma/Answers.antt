@@ -6,12 +6,12 @@ use Rattle.text_field.proofs.Cursor.comma.Goals as goal
 
 pub returns-in-Some-eq44 : goal.returns-in-Some-eq44
 unfolding comma_at
-returns-in-Some-eq44 c = record { same = refl; is = search rules }
+returns-in-Some-eq44 c = record { same = refl; is = search rules; kept = λ e. search rules }
 
 pub returns-in_default : goal.returns-in_default
 unfolding comma_at
-returns-in_default c = record { same = refl; is = search rules }
+returns-in_default c = record { same = refl; is = search rules; kept = λ e. search rules }
 
 pub returns-in_default-2 : goal.returns-in_default-2
 unfolding comma_at
-returns-in_default-2 c = record { same = refl; is = search rules }
+returns-in_default-2 c = record { same = refl; is = search rules; kept = λ e. search rules }

@@ -34,7 +34,7 @@ returns-then-not-is_ascii_digit c =
     let l = c.loop-i in
     let no : is_digit _ ≡ false = sym (ascii _) ∙ sym c.is_ascii_digit.ensures.value ∙ c.if-not-is_ascii_digit.true in
     let told = rw l.invariant.0 at c.sized.ensures in
-    record { same = told.same; is = told.is ∙ from_other _ _ _ l.v l.i l.invariant.2 c.loop-i-test.true no ∙ l.invariant.3 }
+    record { same = told.same; is = told.is ∙ from_other _ _ _ l.v l.i l.invariant.2 c.loop-i-test.true no ∙ l.invariant.3; kept = told.kept }
 
 pub returns-then-tenth-v : goal.returns-then-tenth-v
 returns-then-tenth-v c =
@@ -44,6 +44,7 @@ returns-then-tenth-v c =
     record {
       same = ap (λ (s : Cursor). s.text) l.invariant.0;
       is = large _ _ _ l.v l.i (omega arith) l.invariant.3 c.loop-i-test.true digit (omega arith);
+      kept = λ e. ap (λ (s : Cursor). s.at) l.invariant.0;
     }
 
 pub returns-then-most-tens : goal.returns-then-most-tens
@@ -53,6 +54,7 @@ returns-then-most-tens c =
     record {
       same = ap (λ (s : Cursor). s.text) l.invariant.0;
       is = large _ _ _ l.v l.i (omega arith) l.invariant.3 c.loop-i-test.true digit (omega (arith, c.from-d.ensures));
+      kept = λ e. ap (λ (s : Cursor). s.at) l.invariant.0;
     }
 
 pub loop-i-preserved : goal.loop-i-preserved
@@ -70,4 +72,5 @@ returns c =
     record {
       same = told.same;
       is = told.is ∙ rw (c.saturating_sub.ensures, end) (from_end _ _ _ l.v l.i l.invariant.2 c.loop-i-test.false ∙ l.invariant.3);
+      kept = told.kept;
     }

@@ -7,8 +7,8 @@ use Rattle.text_field.proofs.Cursor.sized.Goals as goal
 
 pub returns-then-not-contains : goal.returns-then-not-contains
 unfolding sized outside ◌or◌
-returns-then-not-contains c = record { same = refl; is = search rules }
+returns-then-not-contains c = record { same = refl; is = search rules; kept = λ e. search rules }
 
 pub returns : goal.returns
 unfolding sized outside ◌or◌
-returns c = record { same = refl; is = search rules }
+returns c = record { same = refl; is = search rules; kept = λ e. search rules }
