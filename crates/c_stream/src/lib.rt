@@ -45,8 +45,8 @@ pub extern "C" fn vougecress_read(stream: &[u8]) -> Read
     let taken = stream_read::taken(stream);
     match stream_read::read(stream) {
         Ok(Some(command)) => command_read(command, taken),
-        Ok(None) => nothing_read(Ok(())),
-        Err(why) => nothing_read(Err(why)),
+        Ok(None) => nothing_read(0),
+        Err(why) => nothing_read(u32::from(why)),
     }
 }
 

@@ -87,6 +87,7 @@ impl Chain {
     }
 
     // The figure of a quarter; the record stays as it is.
+    #[tactic(auto, using(crate::proofs::Calls::quarter_stays))]
     pub fn quarter(self, p: &[u32]) -> Answered
         ensures answer_value { answer_from result.answer ≡ call_answer (record_of self) (Call.quarter p.now) }
         ensures chain_value { record_of result.chain ≡ after (record_of self) (Call.quarter p.now) }

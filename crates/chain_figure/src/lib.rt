@@ -60,6 +60,7 @@ pub fn reckon(lent: &Record, p: &[u32]) -> Result<u64, Refusal>
 }
 
 // 23 and 24 of a call with this figure, on a record with these numbers; a close's new weights are judged before.
+#[tactic(auto, using(crate::proofs::Late::range_refused, crate::proofs::Late::spent_refused, crate::proofs::Late::none_late))]
 pub fn judge_figure(figure: u64, numbers: Numbers) -> Result<(), Refusal>
     ensures { refusal_of result ≡ late_refusal figure numbers }
 {

@@ -62,6 +62,14 @@ impl Panel<'_> {
         }
     }
 
+    // The opening from the u.
+    fn open_from(&self, u: &[u64], start: u64) -> Result<Chain, Refusal>
+        requires { Weighable self.now.lists.shares.now u.now self.now.lists.relatives.now × (length u.now ≤ most_panel) }
+        ensures { opening_of result ≡ weighed_answer self.now.lists.shares.now u.now self.now.lists.relatives.now start }
+    {
+        open_from(self.lists.shares, u, self.lists.relatives, start)
+    }
+
     // The opening, with an outside share or without.
     pub fn open(&self, start: u64) -> Result<Chain, Refusal>
         ensures { opening_of result ≡ panel_answer (panel_of self.now) start }
@@ -70,7 +78,7 @@ impl Panel<'_> {
         let n = self.lists.weights.len();
         let mut u = [0u64; MOST_PANEL];
         self.share_into(&mut u[..n]);
-        open_from(self.lists.shares, &u[..n], self.lists.relatives, start)
+        self.open_from(&u[..n], start)
     }
 }
 

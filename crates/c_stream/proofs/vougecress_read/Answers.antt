@@ -7,6 +7,7 @@ use Rattle.std.proofs.Common.{Option, Result, Ok}
 use Rattle.refusals.specs.declared.Refusal.{Refusal}
 use Rattle.stream_read.specs.declared.Command.{Command}
 use Rattle.stream_read.specs.Value.{reading_from}
+use Rattle.c_values.specs.Reads.{nothing_read}
 use Rattle.c_stream.specs.Streams.{read_from}
 use Rattle.c_stream.proofs.Readings.{reads}
 use Rattle.c_stream.proofs.vougecress_read.Goals as goal
@@ -30,5 +31,5 @@ returns-in-Ok-None c =
 pub returns-in-Err : goal.returns-in-Err
 returns-in-Err c =
     let known = told c.in-Err.is c.read.ensures c.taken-taken.ensures in
-    let w = reads c.args.stream.now c.nothing_read-in-Err.result (c.nothing_read-in-Err.ensures ∙ known) in
+    let w = reads c.args.stream.now c.nothing_read-in-Err.result (c.nothing_read-in-Err.ensures ∙ ap nothing_read c.from.ensures ∙ known) in
     record { value = w.0; stream_value = w.1 }
