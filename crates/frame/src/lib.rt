@@ -41,15 +41,21 @@ pub fn rising(numbers: &[u32]) -> bool
     rises
 }
 
-// "a turnover 0, or total over 10^12". The total is wide enough for any list.
+// "a turnover 0, or total over 10^12": what the total has left falls to where it would pass the limit, so that no sum wraps.
 pub fn bad_turnovers(turnovers: &[u64]) -> bool
     ensures { result ≡ bad_turnovers turnovers.now }
 {
-    if turnovers.contains(&0) {
-        return true;
+    let mut left = MOST_TURNOVER;
+    for turnover in turnovers {
+        if *turnover == 0 {
+            return true;
+        }
+        let Some(rest) = left.checked_sub(*turnover) else {
+            return true;
+        };
+        left = rest;
     }
-    let total: u128 = turnovers.iter().map(|turnover| u128::from(*turnover)).sum();
-    u128::from(MOST_TURNOVER) < total
+    false
 }
 
 // "random number … over 999,999": asked of the largest, since a pass that may stop in the middle takes longer
