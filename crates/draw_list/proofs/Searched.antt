@@ -1,7 +1,7 @@
 -- The short list as the search takes it: its units are units of the frame, its numerators fit the scale, and what is checked makes a bound.
-use Prim.Native.Nat.{ℕ, ◌/◌, ◌<◌}
+use Prim.Native.Nat.{ℕ, ◌/◌, ◌≤◌, ◌<◌}
 use mathlib.Core.Bool.{Bool}
-use mathlib.Core.Path.{◌≡◌, sym, ap, ◌∙◌}
+use mathlib.Core.Path.{◌≡◌, sym, ap, ◌∙◌, subst}
 use mathlib.Core.List.{List}
 use native.Mathlib.Omega.{arith}
 use native.Mathlib.Nat.{mul-le-mul_right, div-mul-le_self}
@@ -26,6 +26,12 @@ pub under_scaled : {rs gs : List ℕ} {s : Setting} {units : List ℕ} {m : ℕ}
 under_scaled {m = m} some h = record {
   low = λ j l. omega (arith, mul-le-mul_right (most_word / m) (h.low j l), div-mul-le_self most_word m);
 }
+
+-- a list that did not end early is that of the whole frame
+pub listed_whole :
+    {ts rs gs : List ℕ} {s : Setting} {seen n : ℕ} {units : List ℕ} {count : ℕ} → seen ≤ n → n ≤ seen → Listed ts rs gs s seen units count
+    → Listed ts rs gs s n units count
+listed_whole {ts} {rs} {gs} {s} {seen} {n} {units} {count} l e h = subst (λ (k : ℕ). Listed ts rs gs s k units count) (omega arith) h
 
 module _ (r : Shortlist) where
   pub listed_count : r.count ≡ length (take r.count r.units)

@@ -5,11 +5,13 @@ ghost use Rattle.draw_list.specs.Room.{list_room};
 use crate::ROOM;
 use draw_bound::Bound;
 
-// The first `count` places hold the short-listed units of a frame, in the order of their numbers. (No heap: an array with its length beside it.)
+// The first `count` places hold the short-listed among the first `seen` units of a frame, in the order of their numbers. (No heap: an array with its
+// length beside it.)
 #[derive(Drop)]
 pub struct Shortlist {
     pub units: [usize; ROOM],
     pub count: usize,
+    pub seen: usize,
     pub ghost room: { length units ≡ list_room },
     pub ghost few: { count ≤ list_room },
 }

@@ -4,7 +4,7 @@
 // check fails nothing is answered, and the caller orders the keys instead.
 #![tactic(auto)]
 
-ghost use Rattle.std.specs.Prelude.{◌≡◌, ◌≤◌, ◌<◌, length, IfSome, MatchOption};
+ghost use Rattle.std.specs.Prelude.{◌≡◌, ◌≤◌, ◌<◌, length, IfSome};
 ghost use Rattle.rules.specs.Selection.{count};
 ghost use Rattle.selection.specs.Marked.{Placed};
 ghost use Rattle.draw_key.specs.Keyed.{over, size_of};
@@ -14,17 +14,19 @@ ghost use Rattle.draw_list.specs.Found.{Listed, Under, Scaled, Parts, IsFound};
 
 use draw_bound::Bound;
 use draw_key::Keyed;
-use found::{Found, Shortlist};
 
 pub mod found;
+
+pub use found::{Found, Shortlist};
 
 // Units on a short list.
 pub const ROOM: usize = 256;
 
-// The short list of a frame; None where it has no room for all of them.
-pub fn collect(keyed: &Keyed) -> Option<Shortlist>
-    ensures { MatchOption result (list_room < count (over near keyed.now) (size_of keyed.now))
-        (λ list. over Listed keyed.now (size_of keyed.now) list.units list.count) }
+// The short list of a frame; it ends early where it has no room for all of them.
+pub fn collect(keyed: &Keyed) -> Shortlist
+    ensures within_frame { result.seen ≤ size_of keyed.now }
+    ensures listed { over Listed keyed.now result.seen result.units result.count }
+    ensures full { result.seen < size_of keyed.now → list_room < count (over near keyed.now) (size_of keyed.now) }
 {
     let reach = draw_bound::reach_of(keyed.setting.n);
     let mut units = [0usize; ROOM];
@@ -32,13 +34,21 @@ pub fn collect(keyed: &Keyed) -> Option<Shortlist>
     'units: for i in 0..keyed.turnovers.len() {
         if draw_bound::is_near(keyed.key(i), reach) {
             if ROOM <= count {
-                return None;
+                return Shortlist {
+                    units,
+                    count,
+                    seen: i,
+                };
             }
             units[count] = i;
             count += 1;
         }
     }
-    Some(Shortlist { units, count })
+    Shortlist {
+        units,
+        count,
+        seen: keyed.turnovers.len(),
+    }
 }
 
 // The largest numerator of the listed units' keys, and at least 1. (`map` and `max` were tried: that the closure may be called at each unit was not shown.)
@@ -86,7 +96,10 @@ pub fn find(keyed: &Keyed, z: usize) -> Option<Found>
     if keyed.setting.n == 0 || !is_worth(keyed) {
         return None;
     }
-    let list = collect(keyed)?;
+    let list = collect(keyed);
+    if list.seen < keyed.turnovers.len() {
+        return None;
+    }
     let units = list.listed();
     let scale = u64::MAX / most_numerator(keyed, units);
     let parts = parts_of(keyed, scale, units);

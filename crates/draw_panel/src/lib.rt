@@ -10,7 +10,7 @@ ghost use Rattle.draw_list.specs.Found.{passing, found_of, Passing};
 ghost use Rattle.draw_panel.specs.Panel.{Weighable, Markable, weight_by, marked_size, marked_of, panel_size, panel_of};
 
 use draw_key::{Keyed, Setting};
-use draw_list::found::Found;
+use draw_list::Found;
 use group::TAKE_ALL;
 use limits::MOST_PANEL;
 

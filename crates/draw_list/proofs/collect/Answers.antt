@@ -36,8 +36,8 @@ units-preserved c =
       )
     ]
 
-pub returns-then-count-ge-ROOM : goal.returns-then-count-ge-ROOM
-returns-then-count-ge-ROOM c =
+pub returns-then-count-ge-ROOM-clause-full : goal.returns-then-count-ge-ROOM-clause-full
+returns-then-count-ge-ROOM-clause-full c = λ early.
     let at = c.units in
     let here = near_is c.key.ensures c.reach_of-reach.ensures ∙ sym c.is_near.ensures ∙ c.if-is_near.true in
     omega (arith, at.invariant.2.holds.many, count_yes (over near c.args.keyed.now) at.i here, count_grows (over near c.args.keyed.now) (at.i + 1) (size_of c.args.keyed.now) (omega arith), c.if-count-ge-ROOM.true)

@@ -1,13 +1,15 @@
 -- After j listed units, those of them within the bound are written: k of them.
 use Prim.Native.Nat.{ℕ, ◌<◌}
 use native.Mathlib.Omega.{arith}
-use mathlib.Core.Path.{◌≡◌, refl, sym, ap, ap₂, ◌∙◌}
+use mathlib.Core.Path.{◌≡◌, refl, sym, ap, ◌∙◌}
+use mathlib.Core.Bool.{Bool}
 use mathlib.Core.List.{List}
 use borrow.Author.Rules.{rules}
 use lib.ListN.{length, get_or, take}
 use lib.Seq.{get_or-take}
 use Rattle.std.proofs.lemmas.List.{length-append}
 use Rattle.std.proofs.lemmas.Slice.Zip.{zip_turn}
+use Rattle.draw_bound.specs.declared.Bound.{Bound}
 use Rattle.draw_bound.specs.Bound.{passes}
 use Rattle.draw_list.specs.declared.found.Found.{Found}
 use Rattle.draw_list.proofs.Searched.{listed_count}
@@ -23,6 +25,13 @@ here r e n l =
     let in_list : n < r.list.count = omega (arith, ap length e, listed_count r.list, l) in
     (in_list, ap (λ (xs : List ℕ). get_or xs n 0) e ∙ get_or-take r.list.count r.list.units n 0 in_list)
 
+-- what is asked is whether the unit at that place passes
+asked :
+    (b : Bound) (p i : ℕ) (b' : Bound) (p' i' : ℕ) {r : Bool} → r ≡ passes b' p' i' → b'.part ≡ b.part → b'.last ≡ b.last → p' ≡ p → i' ≡ i
+    → passes b p i ≡ r
+unfolding passes
+asked b p i b' p' i' e part last f g = sym (e ∙ rw (part, last, f, g) refl)
+
 pub listed-init : goal.listed-init
 listed-init c = writing_none
 
@@ -33,7 +42,7 @@ write-requires c =
     let turn = zip_turn c.listed-2.result.now found.parts c.listed.yielded c.into_iter-i-iterator.result c.listed.i-iterator c.next.new.self c.next.result (search rules) (search rules) c.listed.yielded_by _ c.in-Some.is c.next.ensures.steps in
     let at = here found c.listed-2.ensures n turn.0 in
     let unit = turn.2 0 ∙ at.1 in
-    let passed = ap₂ (λ (p i : ℕ). passes found.bound p i) (sym (turn.3 0)) (sym unit) ∙ sym c.is_passed.ensures ∙ c.if-is_passed.true in
+    let passed = asked found.bound (get_or found.parts n 0) (get_or found.list.units n 0) _ _ _ c.is_passed.ensures (omega arith) (omega arith) (omega (arith, turn.3 0)) (omega (arith, unit)) ∙ c.if-is_passed.true in
     let room = places c.listed.invariant found.list.count at.0 passed c.requires.count_in_bounds.0 c.requires.count_in_bounds.1 in
     record {
       unit = rw unit (c.requires.passing.low n at.0);
@@ -47,7 +56,7 @@ overflow_add-k c =
     let turn = zip_turn c.listed-2.result.now found.parts c.listed.yielded c.into_iter-i-iterator.result c.listed.i-iterator c.next.new.self c.next.result (search rules) (search rules) c.listed.yielded_by _ c.in-Some.is c.next.ensures.steps in
     let at = here found c.listed-2.ensures n turn.0 in
     let unit = turn.2 0 ∙ at.1 in
-    let passed = ap₂ (λ (p i : ℕ). passes found.bound p i) (sym (turn.3 0)) (sym unit) ∙ sym c.is_passed.ensures ∙ c.if-is_passed.true in
+    let passed = asked found.bound (get_or found.parts n 0) (get_or found.list.units n 0) _ _ _ c.is_passed.ensures (omega arith) (omega arith) (omega (arith, turn.3 0)) (omega (arith, unit)) ∙ c.if-is_passed.true in
     let room = places c.listed.invariant found.list.count at.0 passed c.requires.count_in_bounds.0 c.requires.count_in_bounds.1 in
     omega (arith, room.1, c.well_formed)
 
@@ -58,7 +67,7 @@ listed-preserved-then-is_passed c =
     let turn = zip_turn c.listed-2.result.now found.parts c.listed.yielded c.into_iter-i-iterator.result c.listed.i-iterator c.next.new.self c.next.result (search rules) (search rules) c.listed.yielded_by _ c.in-Some.is c.next.ensures.steps in
     let at = here found c.listed-2.ensures n turn.0 in
     let unit = turn.2 0 ∙ at.1 in
-    let passed = ap₂ (λ (p i : ℕ). passes found.bound p i) (sym (turn.3 0)) (sym unit) ∙ sym c.is_passed.ensures ∙ c.if-is_passed.true in
+    let passed = asked found.bound (get_or found.parts n 0) (get_or found.list.units n 0) _ _ _ c.is_passed.ensures (omega arith) (omega arith) (omega (arith, turn.3 0)) (omega (arith, unit)) ∙ c.if-is_passed.true in
     let room = places c.listed.invariant found.list.count at.0 passed c.requires.count_in_bounds.0 c.requires.count_in_bounds.1 in
     rw (length-append c.listed.yielded _)
     (writing_same c.write.ensures.panel_after c.write.ensures.weights_after refl
@@ -72,5 +81,5 @@ listed-preserved c =
     let turn = zip_turn c.listed-2.result.now found.parts c.listed.yielded c.into_iter-i-iterator.result c.listed.i-iterator c.next.new.self c.next.result (search rules) (search rules) c.listed.yielded_by _ c.in-Some.is c.next.ensures.steps in
     let at = here found c.listed-2.ensures n turn.0 in
     let unit = turn.2 0 ∙ at.1 in
-    let passed = ap₂ (λ (p i : ℕ). passes found.bound p i) (sym (turn.3 0)) (sym unit) ∙ sym c.is_passed.ensures ∙ c.if-is_passed.false in
+    let passed = asked found.bound (get_or found.parts n 0) (get_or found.list.units n 0) _ _ _ c.is_passed.ensures (omega arith) (omega arith) (omega (arith, turn.3 0)) (omega (arith, unit)) ∙ c.if-is_passed.false in
     rw (length-append c.listed.yielded _) (writing_not c.listed.invariant passed)
