@@ -22,6 +22,9 @@ pub use found::{Found, Shortlist};
 // Units on a short list.
 pub const ROOM: usize = 256;
 
+// The largest number of 64 bits.
+pub const MOST_WORD: u64 = u64::MAX;
+
 // The short list of a frame; it ends early where it has no room for all of them.
 pub fn collect(keyed: &Keyed) -> Shortlist
     ensures within_frame { result.seen ≤ size_of keyed.now }
@@ -101,7 +104,7 @@ pub fn find(keyed: &Keyed, z: usize) -> Option<Found>
         return None;
     }
     let units = list.listed();
-    let scale = u64::MAX / most_numerator(keyed, units);
+    let scale = MOST_WORD / most_numerator(keyed, units);
     let parts = parts_of(keyed, scale, units);
     let found = &parts[..list.count];
     let part = draw_search::nth(found, z);
