@@ -22,7 +22,7 @@ pub extern "C" fn vougecress_renew(
     if lent.len() < record::RECORD {
         return u32::from(Refusal::State);
     }
-    let before = record::load(lent);
+    let mut held = record::load(lent);
     let lists = Lists {
         weights,
         shares,
@@ -32,5 +32,10 @@ pub extern "C" fn vougecress_renew(
         lists,
         outside: None,
     };
-    record::lay_opened(chain_renew::renew(before, &panel), lent)
+    let refusal = match chain_renew::renew_lent(&mut held, &panel) {
+        Ok(()) => 0,
+        Err(why) => u32::from(why),
+    };
+    record::lay(refusal, held, lent);
+    refusal
 }

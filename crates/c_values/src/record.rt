@@ -46,7 +46,7 @@ fn store(chain: Chain, lent: &mut [u64])
     lent[BEFORE..RECORD].copy_from_slice(&chain.weights);
 }
 
-// What a close or a year leaves in a lent list: its record, or after a refusal the list as it was.
+// What a close, a year or a renewal leaves in a lent list: its record, or after a refusal the list as it was.
 pub fn lay(refusal: u32, chain: Chain, lent: &mut [u64])
     requires { record_places ≤ length lent.old }
     ensures { lent.new ≡ written refusal (record_list (record_of chain)) lent.old }
@@ -56,7 +56,7 @@ pub fn lay(refusal: u32, chain: Chain, lent: &mut [u64])
     }
 }
 
-// What an opening or a renewal leaves in a lent list: the new record, or after a refusal the list as it was. The number is the refusal's, or 0.
+// What an opening leaves in a lent list: the new record, or after a refusal the list as it was. The number is the refusal's, or 0.
 pub fn lay_opened(opened: Result<Chain, Refusal>, lent: &mut [u64]) -> u32
     requires { record_places ≤ length lent.old }
     ensures value { result ≡ opening_number opened }

@@ -7,13 +7,16 @@ use Prim.Native.Nat.{ℕ}
 use contract.Lifetimes.{Lfts}
 use denote.Ref.{Bor, MutBor}
 use Rattle.std.specs.Prelude.{Result, Ok}
+use Rattle.refusals.specs.Number.{refusal_of}
 use Rattle.refusals.specs.declared.Refusal.{Refusal}
-use Rattle.rules.specs.Refusals.{Judged}
+use Rattle.rules.specs.Refusals.{Judged, judged, stays}
 use Rattle.rules.specs.Chain as rules
 use Rattle.rules.specs.Panel.{Panel, panel_record, panel_answer}
 use Rattle.rules.specs.Year.{four_calls, year_of}
+use Rattle.rules.specs.Renewal.{renewal_refusal, renewed_record, renewal_answer, renewal_after}
 use Rattle.rules.specs.Events.{Event, Made, renewal_event, events}
 use Rattle.rules.specs.Direct.{direct_open, AllWithin}
+use Rattle.rules.proofs.Refusals.{judged_same, stays_goes}
 use Rattle.chain.specs.Record.{record_of}
 use Rattle.chain.specs.declared.Chain.{Chain}
 use Rattle.chain.proofs.Chain.quarter.Reads as quarter-reads
@@ -21,6 +24,7 @@ use Rattle.chain.proofs.Chain.close.Reads as close-reads
 use Rattle.chain_open_input.specs.declared.Lists.{Lists}
 use Rattle.chain_open.specs.Opened.{opening_of}
 use Rattle.chain_open.proofs.«open».Reads as open-reads
+use Rattle.chain_open.specs.Panel.{panel_of}
 use Rattle.chain_open.specs.declared.Panel as code
 use Rattle.chain_open.proofs.Panel.«open».Reads as panel-reads
 use Rattle.chain_bound.specs.Trace.{Met, Trace}
@@ -28,12 +32,11 @@ use Rattle.chain_bound.proofs.Joint.{call_met, renewal_met, year_met}
 use Rattle.chain_bound.proofs.Demand3.{demand3_trace}
 use Rattle.chain_year.specs.Run.{year_with}
 use Rattle.chain_year.proofs.year.Reads as year-reads
-use Rattle.chain_renew.specs.Renewed.{left}
-use Rattle.chain_renew.proofs.Onward.{after_is}
 use Rattle.chain_renew.proofs.renew.Reads as renew-reads
+use Rattle.chain_renew.proofs.renew_lent.Reads as renew-lent-reads
 use Rattle.chain_bound_code.specs.Calls.{PanelOpened, PanelRenewed, CallsMade}
 
--- None of the six asks anything of its caller: every list of calls can be made.
+-- None of the seven asks anything of its caller: every list of calls can be made.
 pub open_asks : (κs : Lfts 2) (lent : Bor Lists) (start : ℕ) → open-reads.Asked κs (lent, (start, tt))
 open_asks κs lent start = tt
 
@@ -53,10 +56,24 @@ year_asks κs lent q₁ q₂ q₃ p buffer = tt
 pub renew_asks : (κs : Lfts 2) (c : Chain) (lent : Bor code.Panel) → renew-reads.Asked κs (c, (lent, tt))
 renew_asks κs c lent = tt
 
+pub renew_lent_asks : (κs : Lfts 3) (lent : MutBor Chain) (panel : Bor code.Panel) → renew-lent-reads.Asked κs (lent, (panel, tt))
+renew_lent_asks κs lent panel = tt
+
+-- what is read off a refusal and the record left is the answer
+lent_answer_is : (n m : ℕ) (r s t : rules.Chain) → n ≡ m → t ≡ stays m r s → judged n t ≡ judged m s
+lent_answer_is n m r s t number left = rw (number, left) (judged_same m (stays m r s) s (stays_goes m r s))
+
 -- a renewal of the code, with or without an outside share, is the definitions'
-renewed : {c : Chain} {p : Panel} {o : Result Chain Refusal} → PanelRenewed c p o →
-    Met (record_of c) (Made.renewal p) (renewal_event p (opening_of o) ∷ []) (record_of (left c o))
-renewed (PanelRenewed.either made) = renewal_met _ _ _ _ made.learnt (after_is _ _ _ made.learnt)
+renewed : {c d : Chain} {p : Panel} {a : Judged rules.Chain} → PanelRenewed c p a d →
+    Met (record_of c) (Made.renewal p) (renewal_event p a ∷ []) (record_of d)
+unfolding renewal_answer renewal_after
+renewed (PanelRenewed.by_value made) = renewal_met _ _ _ _ made.learnt.0 made.learnt.1
+renewed (PanelRenewed.on_lent {c = c} {d = d} {panel = panel} {r = r} made) =
+    let before = record_of c in
+    let p = panel_of panel.now in
+    let number : refusal_of r ≡ renewal_refusal before p = rw (← made.holds) made.learnt.0 in
+    let left : record_of d ≡ renewal_after before p = rw (← made.holds, ← made.leaves) made.learnt.1 in
+    renewal_met before _ p _ (lent_answer_is _ (renewal_refusal before p) before (renewed_record before p) _ number left) left
 
 -- calls of the code are a trace of the definitions
 trace : {c : Chain} {list : List Made} {given : List Event} → CallsMade c list given → Trace (record_of c) list given

@@ -1,5 +1,5 @@
--- `Learnt` is what the code gives, and no hypothesis: of either open, quarter, close, year and renew, called by name, a caller knows it by the function's own
--- theorem.
+-- `Learnt` is what the code gives, and no hypothesis: of either open, quarter, close, year and either renewal, called by name, a caller knows it by the
+-- function's own theorem.
 use mathlib.Core.Path.{◌≡◌}
 use mathlib.Core.List.{List}
 use Prim.Native.Nat.{ℕ}
@@ -30,6 +30,10 @@ use Rattle.chain_renew.proofs.renew.Kinds as renew-kinds
 use Rattle.chain_renew.proofs.renew.Reads as renew-reads
 use Rattle.chain_renew.proofs.renew.Met as renew-theorem
 use Rattle.chain_renew.proofs.renew.Symbol as renew-symbol
+use Rattle.chain_renew.proofs.renew_lent.Kinds as renew-lent-kinds
+use Rattle.chain_renew.proofs.renew_lent.Reads as renew-lent-reads
+use Rattle.chain_renew.proofs.renew_lent.Met as renew-lent-theorem
+use Rattle.chain_renew.proofs.renew_lent.Symbol as renew-lent-symbol
 use Rattle.chain_year.proofs.year.Kinds as year-kinds
 use Rattle.chain_year.proofs.year.Reads as year-reads
 use Rattle.chain_year.proofs.year.Met as year-theorem
@@ -69,3 +73,8 @@ module _ (w : World) (γ : Env) where
       KnownBy 2 renew-kinds.ps renew-kinds.r renew-reads.Asked renew-reads.Learnt renew-symbol.name
   renew_known wired same =
       renew-reads.known w γ renew-symbol.name (w.𝓡.env renew-symbol.name) same (renew-theorem.met w.𝓤 w.𝓛 w.𝓜 w.𝓡 wired)
+
+  pub renew_lent_known : Wired w.𝓡.env renew-lent-symbol.code → γ renew-lent-symbol.name ≡ w.𝓡.env renew-lent-symbol.name →
+      KnownBy 3 renew-lent-kinds.ps renew-lent-kinds.r renew-lent-reads.Asked renew-lent-reads.Learnt renew-lent-symbol.name
+  renew_lent_known wired same =
+      renew-lent-reads.known w γ renew-lent-symbol.name (w.𝓡.env renew-lent-symbol.name) same (renew-lent-theorem.met w.𝓤 w.𝓛 w.𝓜 w.𝓡 wired)

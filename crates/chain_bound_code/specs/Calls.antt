@@ -1,5 +1,6 @@
 -- Document 01, demand 3, with document 02, [6], [7] and [11]: calls that a program makes of `chain_open::open` or `Panel::open`, `Chain::quarter`,
--- `Chain::close`, `chain_year::year` and `chain_renew::renew`, each handed the record that the call before it handed back. Of a call is known what Rattle lets its caller know: `Learnt` of the module `Reads` that it makes of the function's own `ensures`.
+-- `Chain::close`, `chain_year::year` and `chain_renew::renew` or `renew_lent`, each handed the record that the call before it handed back or left where it
+-- was lent. Of a call is known what Rattle lets its caller know: `Learnt` of the module `Reads` that it makes of the function's own `ensures`.
 -- No line here repeats a contract.
 use Rattle.std.specs.Prelude.{Result, ℕ, ◌≡◌, List, [], ◌∷◌, ◌++◌, length, take}
 use contract.Lifetimes.{Lfts}
@@ -7,12 +8,14 @@ use Rattle.std.specs.Borrow.{Bor, MutBor}
 use denote.Triple.Clauses.{AtExit}
 use Rattle.refusals.specs.Number.{refusal_of}
 use Rattle.refusals.specs.declared.Refusal.{Refusal}
+use Rattle.rules.specs.Refusals.{Judged, judged}
+use Rattle.rules.specs.Chain as rules
 use Rattle.rules.specs.Chain.{Call}
 use Rattle.rules.specs.Panel.{Panel, plain}
 use Rattle.rules.specs.Year.{four_calls}
 use Rattle.rules.specs.Events.{Event, Made, event_of, renewal_event}
 use Rattle.chain_bound.specs.Trace.{year_told}
-use Rattle.chain.specs.Record.{answer_from}
+use Rattle.chain.specs.Record.{record_of, answer_from}
 use Rattle.chain.specs.declared.Chain.{Chain}
 use Rattle.chain.specs.declared.Answered.{Answered}
 use Rattle.chain.specs.contracts.Chain.quarter as quarter-contract
@@ -34,6 +37,8 @@ use Rattle.chain_year.proofs.year.Reads as year-reads
 use Rattle.chain_renew.specs.Renewed.{left}
 use Rattle.chain_renew.specs.contracts.renew as renew-contract
 use Rattle.chain_renew.proofs.renew.Reads as renew-reads
+use Rattle.chain_renew.specs.contracts.renew_lent as renew-lent-contract
+use Rattle.chain_renew.proofs.renew_lent.Reads as renew-lent-reads
 
 -- `chain_open::open` of the lent lists and of start returned o; `lent.now` is what was lent.
 pub record OpenMade (lent : Bor Lists) (start : ℕ) (o : Result Chain Refusal) : Type 0 where
@@ -58,9 +63,26 @@ pub record RenewMade (c : Chain) (lent : Bor code.Panel) (o : Result Chain Refus
   pub end : AtExit renew-contract.ended lifetimes
   pub learnt : renew-reads.Learnt lifetimes (c, (lent, tt)) o end
 
--- The same, with the panel that it was handed, which brings an outside share or does not.
-pub data PanelRenewed : Chain → Panel → Result Chain Refusal → Type 0 where
-  either : {c : Chain} {lent : Bor code.Panel} {o : Result Chain Refusal} → RenewMade c lent o → PanelRenewed c (panel_of lent.now) o
+-- `chain_renew::renew_lent` of a lent record that holds c and of the lent panel returned r, and left d in the record
+pub record RenewLentMade (c : Chain) (panel : Bor code.Panel) (r : Result Unit Refusal) (d : Chain) : Type 0 where
+  pub lifetimes : Lfts 3
+  pub lent : MutBor Chain
+  pub holds : lent.now ≡ c
+  pub end : AtExit renew-lent-contract.ended lifetimes
+  pub leaves : end.0.now ≡ d
+  pub learnt : renew-lent-reads.Learnt lifetimes (lent, (panel, tt)) r end
+
+-- what a renewal on a lent record answered, as its caller reads it off the refusal and the record
+abbrev pub lent_answer : Result Unit Refusal → Chain → Judged rules.Chain
+lent_answer r d = judged (refusal_of r) (record_of d)
+
+-- Either of the two, with the panel that it was handed, which brings an outside share or does not, with what it answered, and with the record after it:
+-- what a refused renewal by value was handed is still its caller's.
+pub data PanelRenewed : Chain → Panel → Judged rules.Chain → Chain → Type 0 where
+  by_value : {c : Chain} {lent : Bor code.Panel} {o : Result Chain Refusal} →
+      RenewMade c lent o → PanelRenewed c (panel_of lent.now) (opening_of o) (left c o)
+  on_lent : {c d : Chain} {panel : Bor code.Panel} {r : Result Unit Refusal} →
+      RenewLentMade c panel r d → PanelRenewed c (panel_of panel.now) (lent_answer r d) d
 
 -- `Chain::quarter` of c and the slice p returned r
 pub record QuarterMade (c : Chain) (p : Bor (List ℕ)) (r : Answered) : Type 0 where
@@ -101,5 +123,5 @@ pub data CallsMade : Chain → List Made → List Event → Type 0 where
       YearMade c q₁ q₂ q₃ p buffer r d fs → CallsMade d list later →
       CallsMade c (Made.year (length buffer.now) q₁.now q₂.now q₃.now p.now ∷ list)
       (year_events buffer (four_calls q₁.now q₂.now q₃.now p.now) r fs ++ later)
-  renewal : {c : Chain} {p : Panel} {o : Result Chain Refusal} {list : List Made} {later : List Event} →
-      PanelRenewed c p o → CallsMade (left c o) list later → CallsMade c (Made.renewal p ∷ list) (renewal_event p (opening_of o) ∷ later)
+  renewal : {c d : Chain} {p : Panel} {a : Judged rules.Chain} {list : List Made} {later : List Event} →
+      PanelRenewed c p a d → CallsMade d list later → CallsMade c (Made.renewal p ∷ list) (renewal_event p a ∷ later)

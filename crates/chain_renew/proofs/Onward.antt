@@ -14,21 +14,23 @@ use Rattle.rules.proofs.Refusals.{refuse_none, given_tells, refused_tells, stays
 use Rattle.chain.specs.declared.Chain.{Chain}
 use Rattle.chain.specs.Record.{record_of}
 use Rattle.chain_open.specs.Opened.{opening_of}
-use Rattle.chain_renew.specs.Renewed.{left, onward}
+use Rattle.chain_renew.specs.Renewed.{left, onward, onward_after}
 
-onward_is : (r s : rules.Chain) (n : ℕ) → onward r (judged n s) ≡ judged n (with_links r.links s)
-onward_is r s zero = refl
-onward_is r s (suc n) = refl
+onward_is : (r s : rules.Chain) (n : ℕ) →
+    (onward r (judged n s) ≡ judged n (with_links r.links s)) × (onward_after r (judged n s) ≡ stays n r (with_links r.links s))
+onward_is r s zero = (refl, refl)
+onward_is r s (suc n) = (refl, refl)
 
 module _ (r : rules.Chain) (p : Panel) where
   -- 19
-  pub broken_refused : (why : Refusal) → number_of why ≡ refuse (broken r) 19 → Judged.refused (number_of why) ≡ renewal_answer r p
-  unfolding renewal_answer renewal_refusal
-  broken_refused why e = refused_by why _ (stops_by_lem why _ _ e) _
+  pub broken_refused : (why : Refusal) → number_of why ≡ refuse (broken r) 19 → (Judged.refused (number_of why) ≡ renewal_answer r p) × (r ≡ renewal_after r p)
+  unfolding renewal_answer renewal_after renewal_refusal
+  broken_refused why e = let number = stops_by_lem why _ _ e in (refused_by why _ number _, stays_by why _ number _ _)
 
   -- else the opening's
-  pub carries_on : 0 ≡ refuse (broken r) 19 → (opened : Judged rules.Chain) → opened ≡ panel_answer p r.index → onward r opened ≡ renewal_answer r p
-  unfolding panel_answer renewal_answer renewal_refusal renewed_record refuse ◌then◌
+  pub carries_on : 0 ≡ refuse (broken r) 19 → (opened : Judged rules.Chain) → opened ≡ panel_answer p r.index →
+      (onward r opened ≡ renewal_answer r p) × (onward_after r opened ≡ renewal_after r p)
+  unfolding panel_answer renewal_answer renewal_after renewal_refusal renewed_record refuse ◌then◌
   carries_on none opened e = rw (e, refuse_none _ 18 (sym none)) (onward_is r (panel_record p r.index) (panel_refusal p r.index))
 
 -- the record that a caller goes on with, by the answer alone

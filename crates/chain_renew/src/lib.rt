@@ -5,10 +5,12 @@ ghost use Rattle.std.specs.Prelude.{◌≡◌};
 ghost use Rattle.refusals.specs.Number.{refusal_of};
 ghost use Rattle.rules.specs.Refusals.{refuse};
 ghost use Rattle.rules.specs.Chain.{broken};
-ghost use Rattle.rules.specs.Renewal.{with_links, renewal_answer};
+ghost use Rattle.rules.specs.Panel.{panel_answer};
+ghost use Rattle.rules.specs.Renewal.{with_links, renewal_refusal, renewal_answer, renewal_after};
 ghost use Rattle.chain.specs.Record.{record_of};
 ghost use Rattle.chain_open.specs.Opened.{opening_of};
 ghost use Rattle.chain_open.specs.Panel.{panel_of};
+ghost use Rattle.chain_renew.specs.Renewed.{left};
 
 use chain::Chain;
 use chain_open::Panel;
@@ -35,11 +37,30 @@ fn carried(opened: Chain, before: Numbers) -> Chain
     }
 }
 
+// The opening of the new weights at the record's C.
+fn reopened(chain: &Chain, panel: &Panel) -> Result<Chain, Refusal>
+    ensures { opening_of result ≡ panel_answer (panel_of panel.now) (record_of chain.now).index }
+{
+    panel.open(chain.numbers.index)
+}
+
 // A renewal. Nothing of the record but its C and its links goes on; 19 judges all of it. Where it is refused, the caller's record is what it was.
 pub fn renew(chain: Chain, panel: &Panel) -> Result<Chain, Refusal>
-    ensures { opening_of result ≡ renewal_answer (record_of chain) (panel_of panel.now) }
+    ensures result_value { opening_of result ≡ renewal_answer (record_of chain) (panel_of panel.now) }
+    ensures chain_value { record_of (left chain result) ≡ renewal_after (record_of chain) (panel_of panel.now) }
 {
     judge(&chain)?;
-    let opened = panel.open(chain.numbers.index)?;
+    let opened = reopened(&chain, panel)?;
     Ok(carried(opened, chain.numbers))
+}
+
+// The same on a lent record, which a refused renewal leaves as it was. (The opening stands here itself: through `reopened` its record is copied once more.)
+pub fn renew_lent(chain: &mut Chain, panel: &Panel) -> Result<(), Refusal>
+    ensures answer_value { refusal_of result ≡ renewal_refusal (record_of chain.old) (panel_of panel.now) }
+    ensures chain_after { record_of chain.new ≡ renewal_after (record_of chain.old) (panel_of panel.now) }
+{
+    judge(chain)?;
+    let opened = panel.open(chain.numbers.index)?;
+    *chain = carried(opened, chain.numbers);
+    Ok(())
 }
