@@ -5,7 +5,7 @@
 ghost use Rattle.std.specs.Prelude.{◌≡◌, ◌≤◌, length};
 ghost use Rattle.refusals.specs.Number.{refusal_of};
 ghost use Rattle.rules.specs.Limits.{most_panel};
-ghost use Rattle.rules.specs.Chain.{open_answer};
+ghost use Rattle.rules.specs.Chain.{open_answer, opening, open_weight_refusal};
 ghost use Rattle.rules.specs.Panel.{panel_shared, panel_answer};
 ghost use Rattle.chain_open_input.specs.Lists.{over};
 ghost use Rattle.chain_open_weights.specs.Weighable.{Weighable};
@@ -18,20 +18,6 @@ use chain_record::Numbers;
 use chain_share::Outside;
 use limits::MOST_PANEL;
 use refusals::Refusal;
-
-// The opening from the u, whichever way to the u was taken: 21 and 22, or else the record.
-fn open_from(marks: &[u32], u: &[u64], a: &[u32], start: u64) -> Result<Chain, Refusal>
-    requires { Weighable marks.now u.now a.now × (length u.now ≤ most_panel) }
-    ensures { opening_of result ≡ weighed_answer marks.now u.now a.now start }
-{
-    let n = u.len();
-    let mut weights = [0u64; MOST_PANEL];
-    chain_open_weights::weigh(marks, u, a, &mut weights[..n])?;
-    Ok(Chain {
-        weights,
-        numbers: Numbers::opened(n, start),
-    })
-}
 
 // What an opening brings beside its start index: the lists, and perhaps an outside share.
 #[derive(Clone, Copy)]
@@ -62,12 +48,27 @@ impl Panel<'_> {
         }
     }
 
-    // The opening from the u.
+    // 21 and 22 of the u; the last list holds the opening weights where neither applies.
+    fn weigh(&self, u: &[u64], v: &mut [u64]) -> Result<(), Refusal>
+        requires { Weighable self.now.lists.shares.now u.now self.now.lists.relatives.now × (length v.old ≡ length u.now) }
+        ensures result_value { refusal_of result ≡ open_weight_refusal self.now.lists.shares.now u.now self.now.lists.relatives.now }
+        ensures v_after { refusal_of result ≡ 0 → v.new ≡ opening u.now self.now.lists.relatives.now }
+    {
+        chain_open_weights::weigh(self.lists.shares, u, self.lists.relatives, v)
+    }
+
+    // The opening from the u, whichever way to the u was taken: 21 and 22, or else the record. (It hands the record on itself: each function between copies it.)
     fn open_from(&self, u: &[u64], start: u64) -> Result<Chain, Refusal>
         requires { Weighable self.now.lists.shares.now u.now self.now.lists.relatives.now × (length u.now ≤ most_panel) }
         ensures { opening_of result ≡ weighed_answer self.now.lists.shares.now u.now self.now.lists.relatives.now start }
     {
-        open_from(self.lists.shares, u, self.lists.relatives, start)
+        let n = u.len();
+        let mut weights = [0u64; MOST_PANEL];
+        self.weigh(u, &mut weights[..n])?;
+        Ok(Chain {
+            weights,
+            numbers: Numbers::opened(n, start),
+        })
     }
 
     // The opening, with an outside share or without.

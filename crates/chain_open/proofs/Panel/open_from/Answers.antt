@@ -12,7 +12,7 @@ use Rattle.rules.proofs.Refusals.{judged_given}
 use Rattle.chain_record.specs.Record.{record_with}
 use Rattle.chain_record.proofs.Records.{opened_is}
 use Rattle.chain_open.proofs.Fitting.{front}
-use Rattle.chain_open.proofs.open_from.Goals as goal
+use Rattle.chain_open.proofs.Panel.open_from.Goals as goal
 
 pub slice_bounds-weigh-end : goal.slice_bounds-weigh-end
 slice_bounds-weigh-end c = sym (front _ c.requires.1)
@@ -27,5 +27,5 @@ returns-in_err-weigh c = let p = err_from_is_err_and c.from_residual.result c.fr
 pub returns : goal.returns
 returns c = let n = length c.args.u.now in
     let places = ap₂ (λ (x y : List ℕ). x ++ y) (c.in_ok-weigh.ensures.v_after refl) (drop-replicate n most_panel 0) in
-    let made = ap (record_with _) c.opened.ensures ∙ opened_is c.args.u.now c.args.a.now _ c.args.start places in
+    let made = ap (record_with _) c.opened.ensures ∙ opened_is c.args.u.now c.args.self.now.lists.relatives.now _ c.args.start places in
     ap Judged.given made ∙ sym (judged_given _ _ (sym c.in_ok-weigh.ensures.result_value))
