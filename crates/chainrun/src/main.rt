@@ -7,6 +7,7 @@ ghost use Rattle.std.specs.Prelude.{◌≡◌, suc, ◌≤◌, length, IfOk};
 ghost use Rattle.rules.specs.Limits.{most_stream};
 
 use job_text::TEXT_ROOM;
+use job_turn::Turned;
 use std::env::{Env, FillError};
 use std::io;
 use std::io::{Print, Read};
@@ -61,14 +62,17 @@ fn has_arguments(rt: &HostRuntime) -> bool {
 fn run_stream(rt: &HostRuntime, stream: &[u8]) -> io::Result<()> {
     let mut text = [0; TEXT_ROOM];
     let mut unread = stream;
-    let mut held = job_state::empty();
+    let mut turned = Turned {
+        job: job_state::empty(),
+        count: 0,
+        more: true,
+    };
     loop {
-        let turned = job_turn::turn(stream.len(), unread, held, &mut text);
+        turned = job_turn::turn(stream.len(), unread, turned.job, &mut text);
         rt.write_all(&text[..turned.count])?;
         if !turned.more {
             return Ok(());
         }
-        held = turned.job;
         unread = stream_front::unread(unread);
     }
 }

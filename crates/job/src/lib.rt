@@ -6,23 +6,29 @@ ghost use Rattle.stream_read.specs.Value.{command_from};
 ghost use Rattle.job_state.specs.Steps.{Steps};
 
 use chain::Kind;
-use job_state::{Job, Saying, Stepped, said};
+use job_state::{Job, Saying, Stepped};
 use limits::MOST_PANEL;
 use stream_read::Command;
 
 // 2: a panel of the frame so far.
-pub fn on_draw(job: Job, size: u8, start: u32) -> Stepped
+pub fn on_draw(mut job: Job, size: u8, start: u32) -> Stepped
     ensures { Steps job (rules.Command.draw size start) result }
 {
     let z = usize::from(size);
     let mut numbers = [0; MOST_PANEL];
     let mut weights = [0; MOST_PANEL];
     match draw::draw(&job.frame.lent(), z, start, &mut numbers, &mut weights) {
-        Err(why) => said(job, Err(why)),
-        Ok(_) => Stepped {
-            job: job_state::drawn(job, z, weights),
-            says: Ok(Saying::Panel(numbers)),
+        Err(why) => Stepped {
+            job,
+            says: Err(why),
         },
+        Ok(_) => {
+            job_state::hold_panel(&mut job, z, weights);
+            Stepped {
+                job,
+                says: Ok(Saying::Panel(numbers)),
+            }
+        }
     }
 }
 

@@ -8,6 +8,7 @@ ghost use Rattle.text_lines.specs.Laid.{panel_room};
 ghost use Rattle.job_output.specs.Printed.{print_answer, printed_on, answer_from, fitted, Passed};
 
 use job_text::TEXT_ROOM;
+use job_turn::Turned;
 use refusals::Refusal;
 
 // Lays the first count bytes of a turn's text from the place at on, if they have room.
@@ -31,16 +32,19 @@ fn pass(stream: &[u8], out: &mut [u8]) -> usize
 {
     let mut text = [0; TEXT_ROOM];
     let mut unread = stream;
-    let mut held = job_state::empty();
+    let mut turned = Turned {
+        job: job_state::empty(),
+        count: 0,
+        more: true,
+    };
     let mut at: usize = 0;
     loop {
-        let turned = job_turn::turn(stream.len(), unread, held, &mut text);
+        turned = job_turn::turn(stream.len(), unread, turned.job, &mut text);
         lay(&text, turned.count, out, at);
         at += turned.count;
         if !turned.more {
             return at;
         }
-        held = turned.job;
         unread = stream_front::unread(unread);
     }
 }

@@ -107,9 +107,9 @@ pub fn with_chain(mut job: Job, chain: Chain) -> Job
     job
 }
 
-// The job after an accepted draw: a panel with whole shares, no relatives and no chain; the frame stays.
-pub fn drawn(mut job: Job, size: usize, weights: [u64; MOST_PANEL]) -> Job
-    ensures { result ≡ panel_held job size weights }
+// An accepted draw on a lent job: a panel with whole shares, no relatives and no chain; the frame stays.
+pub fn hold_panel(job: &mut Job, size: usize, weights: [u64; MOST_PANEL])
+    ensures { job.new ≡ panel_held job.old size weights }
 {
     job.panel = HeldPanel {
         weights,
@@ -118,6 +118,13 @@ pub fn drawn(mut job: Job, size: usize, weights: [u64; MOST_PANEL]) -> Job
         size,
     };
     job.chain = None;
+}
+
+// The job after an accepted draw.
+pub fn drawn(mut job: Job, size: usize, weights: [u64; MOST_PANEL]) -> Job
+    ensures { result ≡ panel_held job size weights }
+{
+    hold_panel(&mut job, size, weights);
     job
 }
 

@@ -34,10 +34,12 @@ pub fn turn(total: usize, s: &[u8], job: Job, text: &mut [u8; TEXT_ROOM]) -> Tur
         },
         Ok(Some(command)) => {
             let stepped = job::step(job, command);
+            let count = lay(text, stepped, at);
+            let more = continues(stepped);
             Turned {
                 job: stepped.job,
-                count: lay(text, stepped, at),
-                more: continues(stepped),
+                count,
+                more,
             }
         }
     }

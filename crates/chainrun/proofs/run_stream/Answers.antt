@@ -7,7 +7,7 @@ use Rattle.job_state.specs.State.{job_of}
 use Rattle.job_turn.proofs.Whole.{rest_shorter}
 use Rattle.chainrun.proofs.run_stream.Goals as goal
 
-pub loop-held-smaller : goal.loop-held-smaller
-loop-held-smaller c =
+pub loop-unread-smaller : goal.loop-unread-smaller
+loop-unread-smaller c =
     let more = sym c.turn-turned.ensures.goes ∙ not-false _ c.if-not-turned.false in
-    omega (arith, ap length c.unread-unread.ensures, rest_shorter _ c.loop-held.unread.now (job_of c.loop-held.held) more)
+    omega (arith, ap length c.unread-unread.ensures, rest_shorter _ c.loop-unread.unread.now (job_of c.loop-unread.turned.job) more)

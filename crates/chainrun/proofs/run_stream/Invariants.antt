@@ -2,5 +2,5 @@
 use Rattle.std.proofs.Common.{length}
 use Rattle.chainrun.proofs.run_stream.Given as goal
 
-abbrev pub decreases-loop-held : goal.decreases-loop-held
-decreases-loop-held l = length l.unread
+abbrev pub decreases-loop-unread : goal.decreases-loop-unread
+decreases-loop-unread l = length l.unread

@@ -3,8 +3,8 @@ use lib.ListN.{length}
 use Rattle.job_output.proofs.Passes.{Under}
 use Rattle.job_output.proofs.pass.Given as goal
 
-abbrev pub invariant-loop-unread : goal.invariant-loop-unread
-invariant-loop-unread l = Under l.stream l.initial.out l.out l.unread l.held l.at
+abbrev pub invariant-loop-turned : goal.invariant-loop-turned
+invariant-loop-turned l = Under l.stream l.initial.out l.out l.unread l.turned.job l.at
 
-abbrev pub decreases-loop-unread : goal.decreases-loop-unread
-decreases-loop-unread l = length l.unread
+abbrev pub decreases-loop-turned : goal.decreases-loop-turned
+decreases-loop-turned l = length l.unread

@@ -21,4 +21,4 @@ returns-in-Ok-None c = renders _ _ _ _ _ _ _ c.saturating_sub-at.result (sym (ap
 
 pub returns-in-Ok-Some : goal.returns-in-Ok-Some
 returns-in-Ok-Some c = command_renders _ _ _ _ _ _ _ c.saturating_sub-at.result (sym (ap reading_from (c.in-Ok-Some.is ∙ ap Ok c.in-Ok-Some.field-0-is)) ∙ c.reading_at.ensures) c.saturating_sub-at.ensures _
-    c.step-stepped.ensures refl c.continues.ensures c.lay.ensures
+    c.step-stepped.ensures refl c.continues-more.ensures c.lay-count.ensures
