@@ -31,19 +31,19 @@ esac
 """
 
 
-def run(words, cwd=TOP, text=None, **more):
-    """Status, standard output and standard error of a command."""
+def run(words, cwd=TOP, text=None, limit=600, **more):
+    """Status, standard output and standard error of a command, which has this many seconds."""
     source = {} if "stdin" in more else {"input": text or b""}
     more.setdefault("stdout", subprocess.PIPE)
     more.setdefault("stderr", subprocess.PIPE)
-    done = subprocess.run([str(word) for word in words], cwd=cwd, timeout=600, **source, **more)
+    done = subprocess.run([str(word) for word in words], cwd=cwd, timeout=limit, **source, **more)
     return done.returncode, done.stdout, (done.stderr or b"").decode()
 
 
 @cache
 def built():
-    """chainrun, built by the command that people use."""
-    status, _, said = run([TOP / "run.sh"])
+    """chainrun, built by the command that people use. On a new machine that proves it from nothing beside other builds: a quarter of an hour was seen."""
+    status, _, said = run([TOP / "run.sh"], limit=3_600)
     if status != 0:
         raise AssertionError(said)
     return CHAINRUN
