@@ -42,7 +42,7 @@ def run(words, cwd=TOP, text=None, limit=600, **more):
 
 @cache
 def built():
-    """chainrun, built by the command that people use. On a new machine that proves it from nothing beside other builds: a quarter of an hour was seen."""
+    """chainrun, built by the command that people use. On a new machine that proves it from nothing beside other builds: twenty minutes were seen."""
     status, _, said = run([TOP / "run.sh"], limit=3_600)
     if status != 0:
         raise AssertionError(said)
